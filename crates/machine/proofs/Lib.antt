@@ -1,0 +1,9 @@
+pub mod Access
+pub mod Encoding
+pub mod Meaning
+pub mod Opcodes
+pub mod Proper
+pub mod ReadsWrites
+pub mod Refusals
+pub mod Unmeaning
+pub mod Vectors

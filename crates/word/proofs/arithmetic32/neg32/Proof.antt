@@ -1,0 +1,17 @@
+-- `neg32` is `alu 32` at `Neg`.
+-- Assumes nothing.
+use mathlib.Core.Path.{refl}
+use borrow.Author.Needs.{needs}
+use Rattle.word.specs.Word.{alu, cut}
+use Rattle.word.proofs.arithmetic32.neg32.Statement.{statement}
+use Rattle.word.proofs.arithmetic32.neg32.Tie as tie
+
+sub-result : tie.Need-sub-result
+sub-result c = search needs
+
+returns : tie.Need-returns
+unfolding alu cut
+returns c = λ _. refl
+
+pub neg32-spec : {M : Type 1} → statement M
+neg32-spec = tie.close (tie.spec sub-result returns)

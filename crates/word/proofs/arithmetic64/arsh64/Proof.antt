@@ -1,0 +1,26 @@
+-- `arsh64` is `alu 64` at `Arsh`. A word is its own low 64 bits.
+-- Assumes nothing.
+use native.Mathlib.Omega.{arith}
+use borrow.Author.Needs.{needs}
+use borrow.Author.Tests.{lt-ltb, le-ltb}
+use Rattle.word.specs.Word.{alu, shiftSigned}
+use Rattle.word.proofs.Cut.{cut-64}
+use Rattle.word.proofs.arithmetic64.arsh64.Statement.{statement}
+use Rattle.word.proofs.arithmetic64.arsh64.Tie as tie
+
+shr-result : tie.Need-shr-result
+shr-result c = search needs
+
+shr-result-2 : tie.Need-shr-result-2
+shr-result-2 c = search needs
+
+returns : tie.Need-returns
+unfolding alu shiftSigned
+returns c = simp (cut-64 {x = c .before .args .d} (omega arith), lt-ltb _ _ (c .if1 .taken))
+
+returns-2 : tie.Need-returns-2
+unfolding alu shiftSigned
+returns-2 c = simp (cut-64 {x = c .before .args .d} (omega arith), le-ltb _ _ (c .if1 .left))
+
+pub arsh64-spec : {M : Type 1} → statement M
+arsh64-spec = tie.close (tie.spec shr-result shr-result-2 returns returns-2)

@@ -1,0 +1,18 @@
+-- `lsh64` is `alu 64` at `Lsh`. A word is its own low 64 bits.
+-- Assumes nothing.
+use native.Mathlib.Omega.{arith}
+use borrow.Author.Needs.{needs}
+use Rattle.word.specs.Word.{alu}
+use Rattle.word.proofs.Cut.{cut-64}
+use Rattle.word.proofs.arithmetic64.lsh64.Statement.{statement}
+use Rattle.word.proofs.arithmetic64.lsh64.Tie as tie
+
+shl-result : tie.Need-shl-result
+shl-result c = search needs
+
+returns : tie.Need-returns
+unfolding alu
+returns c = cc (cut-64 {x = c .args .d} (omega arith))
+
+pub lsh64-spec : {M : Type 1} → statement M
+lsh64-spec = tie.close (tie.spec shl-result returns)
