@@ -1,5 +1,6 @@
 pub mod Access
 pub mod Encoding
+pub mod Fetch
 pub mod Meaning
 pub mod Opcodes
 pub mod Proper

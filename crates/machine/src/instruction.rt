@@ -1,6 +1,18 @@
 // An instruction, taken out of its eight bytes.
+// Each function is a definition of `specs/`, or the part of one that its contract says. Assumes nothing.
+ghost use mathlib.Core.Path.{_≡_};
+ghost use mathlib.Core.Bool.{cond, _&&_};
+ghost use Prim.Native.Nat.{_+_, _/_, _%_};
+ghost use lib.ListN.{length};
+ghost use lib.Dec.{leb, eqb};
+ghost use Rattle.word.specs.Word.{extend};
+ghost use Rattle.machine.specs.Instruction.{only, withOperand};
+ghost use Rattle.machine.specs.Instruction as defined;
+use crate::memory::fetch;
 use word::Comparison;
 use word::Operation;
+use word::sign::extend16;
+use word::sign::extend32;
 
 // Class 7 works on 64 bits, class 4 on 32.
 pub enum Width {
@@ -57,4 +69,272 @@ pub enum Instruction {
         operand: Operand,
     },
     NoInstruction,
+}
+
+// The instruction that the eight bytes at i are. Bytes that don't lie wholly in m are none.
+pub fn decode(m: &[u8], i: usize) -> Instruction
+    ensures { λ r. ⌜ r ≡ cond (leb (i + 8) (length (now (m .entry)))) (defined.decode (now (m .entry)) i) Instruction.NoInstruction ⌝ }
+{
+    if m.len() < 8 {
+        return Instruction::NoInstruction;
+    }
+    if m.len() - 8 < i {
+        return Instruction::NoInstruction;
+    }
+    let w = fetch(m, i);
+    meaning(
+        w % 256,
+        w / 256 % 16,
+        w / 4096 % 16,
+        w / 65536 % 65536,
+        w / 4294967296,
+    )
+}
+
+// Where a register is above 10, nothing else is looked at.
+fn meaning(opcode: u64, dst: u64, src: u64, off: u64, imm: u64) -> Instruction
+    ensures { λ r. ⌜ r ≡ defined.meaning (record { opcode = opcode; dst = dst; src = src; off = off; imm = imm }) ⌝ }
+{
+    if 10 < dst {
+        return Instruction::NoInstruction;
+    }
+    if 10 < src {
+        return Instruction::NoInstruction;
+    }
+    by_class(opcode, dst, src, off, imm)
+}
+
+fn by_class(opcode: u64, dst: u64, src: u64, off: u64, imm: u64) -> Instruction
+    ensures { λ r. ⌜ r ≡ defined.byClass (record { opcode = opcode; dst = dst; src = src; off = off; imm = imm }) ⌝ }
+{
+    match opcode % 8 {
+        7 => arithmetic(Width::Long, opcode, dst, src, off, imm),
+        4 => arithmetic(Width::Short, opcode, dst, src, off, imm),
+        5 => jump(opcode, dst, src, off, imm),
+        1 => load(opcode, dst, src, off, imm),
+        2 => store_of_imm(opcode, dst, src, off, imm),
+        3 => store_of_src(opcode, dst, src, off, imm),
+        _ => Instruction::NoInstruction,
+    }
+}
+
+// Each operation's code is a line of its own here, as in the table of the definition.
+fn arithmetic(width: Width, opcode: u64, dst: u64, src: u64, off: u64, imm: u64) -> Instruction
+    ensures { λ r. ⌜ r ≡ defined.arithmetic width (record { opcode = opcode; dst = dst; src = src; off = off; imm = imm }) ⌝ }
+{
+    if off != 0 {
+        return Instruction::NoInstruction;
+    }
+    match opcode / 16 {
+        0 => alu(width, Operation::Add, opcode, dst, src, imm),
+        1 => alu(width, Operation::Sub, opcode, dst, src, imm),
+        2 => alu(width, Operation::Mul, opcode, dst, src, imm),
+        3 => alu(width, Operation::Div, opcode, dst, src, imm),
+        4 => alu(width, Operation::Or, opcode, dst, src, imm),
+        5 => alu(width, Operation::And, opcode, dst, src, imm),
+        6 => alu(width, Operation::Lsh, opcode, dst, src, imm),
+        7 => alu(width, Operation::Rsh, opcode, dst, src, imm),
+        8 => neg(width, opcode, dst, src, imm),
+        9 => alu(width, Operation::Mod, opcode, dst, src, imm),
+        10 => alu(width, Operation::Xor, opcode, dst, src, imm),
+        11 => alu(width, Operation::Mov, opcode, dst, src, imm),
+        12 => alu(width, Operation::Arsh, opcode, dst, src, imm),
+        _ => Instruction::NoInstruction,
+    }
+}
+
+fn neg(width: Width, opcode: u64, dst: u64, src: u64, imm: u64) -> Instruction
+    ensures { λ r. ⌜ r ≡ only (eqb (opcode / 8 % 2) 0 && eqb src 0 && eqb imm 0) (Instruction.Neg width dst) ⌝ }
+{
+    if (opcode / 8 % 2 == 0) & (src == 0) & (imm == 0) {
+        Instruction::Neg { width, dst }
+    } else {
+        Instruction::NoInstruction
+    }
+}
+
+// An operation, once its code is known: bit 3 of the opcode says what the second operand is, and which field is unused.
+fn alu(width: Width, operation: Operation, opcode: u64, dst: u64, src: u64, imm: u64) -> Instruction
+    ensures { λ r. ⌜ r ≡ withOperand (record { opcode = opcode; dst = dst; src = src; off = 0; imm = imm })
+        (λ operand. Instruction.Alu width operation dst operand) ⌝ }
+{
+    if opcode / 8 % 2 == 0 {
+        if src != 0 {
+            return Instruction::NoInstruction;
+        }
+        return Instruction::Alu {
+            width,
+            operation,
+            dst,
+            operand: Operand::Immediate(extend32(imm)),
+        };
+    }
+    if imm != 0 {
+        return Instruction::NoInstruction;
+    }
+    Instruction::Alu {
+        width,
+        operation,
+        dst,
+        operand: Operand::Register(src),
+    }
+}
+
+// JA and EXIT are told by the whole opcode, since they have bit 3 clear.
+fn jump(opcode: u64, dst: u64, src: u64, off: u64, imm: u64) -> Instruction
+    ensures { λ r. ⌜ r ≡ defined.jump (record { opcode = opcode; dst = dst; src = src; off = off; imm = imm }) ⌝ }
+{
+    if opcode == 0x05 {
+        return always(dst, src, off, imm);
+    }
+    if opcode == 0x95 {
+        return exit(dst, src, off, imm);
+    }
+    match opcode / 16 {
+        1 => branch(Comparison::Eq, opcode, dst, src, off, imm),
+        2 => branch(Comparison::Gt, opcode, dst, src, off, imm),
+        3 => branch(Comparison::Ge, opcode, dst, src, off, imm),
+        4 => branch(Comparison::Set, opcode, dst, src, off, imm),
+        5 => branch(Comparison::Ne, opcode, dst, src, off, imm),
+        6 => branch(Comparison::Sgt, opcode, dst, src, off, imm),
+        7 => branch(Comparison::Sge, opcode, dst, src, off, imm),
+        10 => branch(Comparison::Lt, opcode, dst, src, off, imm),
+        11 => branch(Comparison::Le, opcode, dst, src, off, imm),
+        12 => branch(Comparison::Slt, opcode, dst, src, off, imm),
+        13 => branch(Comparison::Sle, opcode, dst, src, off, imm),
+        _ => Instruction::NoInstruction,
+    }
+}
+
+fn always(dst: u64, src: u64, off: u64, imm: u64) -> Instruction
+    ensures { λ r. ⌜ r ≡ only (eqb dst 0 && eqb src 0 && eqb imm 0) (Instruction.Always (extend 16 off)) ⌝ }
+{
+    if (dst == 0) & (src == 0) & (imm == 0) {
+        Instruction::Always { off: extend16(off) }
+    } else {
+        Instruction::NoInstruction
+    }
+}
+
+fn exit(dst: u64, src: u64, off: u64, imm: u64) -> Instruction
+    ensures { λ r. ⌜ r ≡ only (eqb dst 0 && eqb src 0 && eqb imm 0 && eqb off 0) Instruction.Exit ⌝ }
+{
+    if (dst == 0) & (src == 0) & (imm == 0) & (off == 0) {
+        Instruction::Exit
+    } else {
+        Instruction::NoInstruction
+    }
+}
+
+// A comparison, once its code is known. It differs from `alu` only in the instruction that is made.
+fn branch(
+    comparison: Comparison,
+    opcode: u64,
+    dst: u64,
+    src: u64,
+    off: u64,
+    imm: u64,
+) -> Instruction
+    ensures { λ r. ⌜ r ≡ withOperand (record { opcode = opcode; dst = dst; src = src; off = off; imm = imm })
+        (λ operand. Instruction.Jump comparison dst operand (extend 16 off)) ⌝ }
+{
+    let off = extend16(off);
+    if opcode / 8 % 2 == 0 {
+        if src != 0 {
+            return Instruction::NoInstruction;
+        }
+        return Instruction::Jump {
+            comparison,
+            dst,
+            operand: Operand::Immediate(extend32(imm)),
+            off,
+        };
+    }
+    if imm != 0 {
+        return Instruction::NoInstruction;
+    }
+    Instruction::Jump {
+        comparison,
+        dst,
+        operand: Operand::Register(src),
+        off,
+    }
+}
+
+fn load(opcode: u64, dst: u64, src: u64, off: u64, imm: u64) -> Instruction
+    ensures { λ r. ⌜ r ≡ defined.load (record { opcode = opcode; dst = dst; src = src; off = off; imm = imm }) ⌝ }
+{
+    match opcode {
+        0x71 => load_of_size(Size::One, dst, src, off, imm),
+        0x69 => load_of_size(Size::Two, dst, src, off, imm),
+        0x61 => load_of_size(Size::Four, dst, src, off, imm),
+        0x79 => load_of_size(Size::Eight, dst, src, off, imm),
+        _ => Instruction::NoInstruction,
+    }
+}
+
+fn load_of_size(size: Size, dst: u64, src: u64, off: u64, imm: u64) -> Instruction
+    ensures { λ r. ⌜ r ≡ only (eqb imm 0) (Instruction.Load size dst src (extend 16 off)) ⌝ }
+{
+    if imm != 0 {
+        return Instruction::NoInstruction;
+    }
+    Instruction::Load {
+        size,
+        dst,
+        src,
+        off: extend16(off),
+    }
+}
+
+fn store_of_imm(opcode: u64, dst: u64, src: u64, off: u64, imm: u64) -> Instruction
+    ensures { λ r. ⌜ r ≡ defined.storeOfImm (record { opcode = opcode; dst = dst; src = src; off = off; imm = imm }) ⌝ }
+{
+    match opcode {
+        0x72 => store_imm_of_size(Size::One, dst, src, off, imm),
+        0x6a => store_imm_of_size(Size::Two, dst, src, off, imm),
+        0x62 => store_imm_of_size(Size::Four, dst, src, off, imm),
+        0x7a => store_imm_of_size(Size::Eight, dst, src, off, imm),
+        _ => Instruction::NoInstruction,
+    }
+}
+
+fn store_imm_of_size(size: Size, dst: u64, src: u64, off: u64, imm: u64) -> Instruction
+    ensures { λ r. ⌜ r ≡ only (eqb src 0) (Instruction.Store size dst (extend 16 off) (Operand.Immediate (extend 32 imm))) ⌝ }
+{
+    if src != 0 {
+        return Instruction::NoInstruction;
+    }
+    Instruction::Store {
+        size,
+        dst,
+        off: extend16(off),
+        operand: Operand::Immediate(extend32(imm)),
+    }
+}
+
+fn store_of_src(opcode: u64, dst: u64, src: u64, off: u64, imm: u64) -> Instruction
+    ensures { λ r. ⌜ r ≡ defined.storeOfSrc (record { opcode = opcode; dst = dst; src = src; off = off; imm = imm }) ⌝ }
+{
+    match opcode {
+        0x73 => store_src_of_size(Size::One, dst, src, off, imm),
+        0x6b => store_src_of_size(Size::Two, dst, src, off, imm),
+        0x63 => store_src_of_size(Size::Four, dst, src, off, imm),
+        0x7b => store_src_of_size(Size::Eight, dst, src, off, imm),
+        _ => Instruction::NoInstruction,
+    }
+}
+
+fn store_src_of_size(size: Size, dst: u64, src: u64, off: u64, imm: u64) -> Instruction
+    ensures { λ r. ⌜ r ≡ only (eqb imm 0) (Instruction.Store size dst (extend 16 off) (Operand.Register src)) ⌝ }
+{
+    if imm != 0 {
+        return Instruction::NoInstruction;
+    }
+    Instruction::Store {
+        size,
+        dst,
+        off: extend16(off),
+        operand: Operand::Register(src),
+    }
 }

@@ -7,9 +7,6 @@ use Rattle.machine.proofs.Access.{joins-below, joins}
 use borrow.Author.Needs.{needs}
 use Rattle.machine.proofs.memory.join.Statement.{statement}
 use Rattle.machine.proofs.memory.join.Tie as tie
-use Rattle.machine.proofs.memory.join.Reads as reads
-use Rattle.machine.proofs.memory.join.Lts as lts
-use Rattle.machine.proofs.memory.wide.Reads as wide-reads
 
 abbrev Inv-loop : tie.InvT-loop
 Inv-loop m i n x₀ k₀ x k = (k ≤ n) × (x ≡ readBytes (n - k) m (i + k))
@@ -17,40 +14,31 @@ Inv-loop m i n x₀ k₀ x k = (k ≤ n) × (x ≡ readBytes (n - k) m (i + k))
 abbrev μ-loop : tie.MeasureT-loop
 μ-loop m i n x₀ k₀ x k = k
 
--- src/memory.rt:64:5
 loop-holds : tie.Need-loop-holds Inv-loop μ-loop
 unfolding readBytes
 loop-holds c = (search needs, rw (sub-self (c .before .args .n)))
 
--- src/memory.rt:65:9
 sub-k : tie.Need-sub-k Inv-loop μ-loop
 sub-k c = search needs
 
--- src/memory.rt:66:31
 add-wide : tie.Need-add-wide Inv-loop μ-loop
 add-wide c = search needs
 
--- src/memory.rt:66:29
 shared-slice-read-wide : tie.Need-shared-slice-read-wide Inv-loop μ-loop
 shared-slice-read-wide c = search needs
 
--- src/memory.rt:66:24
 wide-requires : tie.Need-wide-requires Inv-loop μ-loop
 wide-requires c κs = search needs
 
--- src/memory.rt:66:13
 add-x : tie.Need-add-x Inv-loop μ-loop
 add-x c = record { fits = rw (c .wide .ensures .0) (joins-below _ _ _ _ _ (λ j. c .before .before .before .before .shared-slice-known .given j .fits) (omega arith) (omega arith) (omega arith) (c .before .before .before .loop .inv .1)) }
 
--- src/memory.rt:64:5
 loop-less : tie.Need-loop-less Inv-loop μ-loop
 loop-less c = search needs
 
--- src/memory.rt:64:5
 loop-again : tie.Need-loop-again Inv-loop μ-loop
 loop-again c = (omega arith, rw (c .wide .ensures .0) (joins _ _ _ _ _ (λ j. c .before .before .before .before .shared-slice-known .given j .fits) (omega arith) (omega arith) (omega arith) (c .before .before .before .loop .inv .1)))
 
--- src/memory.rt:58:1
 returns : tie.Need-returns Inv-loop μ-loop
 returns c = let e : c .before .loop .k ≡ 0 = omega arith in rw (e, sub-zero, add-zero) at (c .before .loop .inv .1)
 

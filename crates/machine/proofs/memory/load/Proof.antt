@@ -3,57 +3,40 @@ use Rattle.machine.proofs.Access.{at-within, at-offset, at-fits, outsid
 use borrow.Author.Needs.{needs}
 use Rattle.machine.proofs.memory.load.Statement.{statement}
 use Rattle.machine.proofs.memory.load.Tie as tie
-use Rattle.machine.proofs.memory.load.Reads as reads
-use Rattle.machine.proofs.memory.load.Lts as lts
-use Rattle.machine.proofs.memory.byte_count.Reads as byte-count-reads
-use Rattle.machine.proofs.memory.join.Reads as join-reads
-use Rattle.machine.proofs.memory.locate.Reads as locate-reads
 
--- src/memory.rt:90:9
 byte-count-requires : tie.Need-byte-count-requires
 byte-count-requires c κs = search needs
 
--- src/memory.rt:91:11
 locate-requires : tie.Need-locate-requires
 locate-requires c κs = search needs
 
--- src/memory.rt:92:19
 enum-known-i : tie.Need-enum-known-i
 enum-known-i c = search needs
 
--- src/memory.rt:92:39
 join-requires : tie.Need-join-requires
 join-requires c κs = (rw (c .before .before .before .before .byte-count .ensures .0) (at-fits _ _ _ _ _ _ (c .before .before .before .before .byte-count .ensures .0) (c .before .before .before .locate .ensures) _ (c .before .i .given .1)), omega arith)
 
--- src/memory.rt:93:43
 enum-told : tie.Need-enum-told
 enum-told c = search needs
 
--- src/memory.rt:93:33
 locate-requires-2 : tie.Need-locate-requires-2
 locate-requires-2 c κs = search needs
 
--- src/memory.rt:94:23
 enum-known-i-2 : tie.Need-enum-known-i-2
 enum-known-i-2 c = search needs
 
--- src/memory.rt:94:43
 join-requires-2 : tie.Need-join-requires-2
 join-requires-2 c κs = (rw (c .before .before .before .before .before .before .before .byte-count .ensures .0) (at-fits _ _ _ _ _ _ (c .before .before .before .before .before .before .before .byte-count .ensures .0) (c .before .before .before .locate2 .ensures) _ (c .before .i2 .given .1)), omega arith)
 
--- src/memory.rt:95:31
 enum-told-2 : tie.Need-enum-told-2
 enum-told-2 c = search needs
 
--- src/memory.rt:87:1
 returns : tie.Need-returns
 returns c = load-record _ _ _ _ _ _ (at-within _ _ _ _ _ _ (c .before .before .before .before .before .byte-count .ensures .0) (c .before .before .before .before .locate .ensures) _ (c .before .before .i .given .1)) (at-offset _ _ _ _ _ _ (c .before .before .before .before .before .byte-count .ensures .0) (c .before .before .before .before .locate .ensures) _ (c .before .before .i .given .1)) (rw (c .before .before .before .before .before .byte-count .ensures .0) at (c .join .ensures))
 
--- src/memory.rt:87:1
 returns-2 : tie.Need-returns-2
 returns-2 c = load-stack _ _ _ _ _ _ (outside-not-within _ _ _ _ _ _ (c .before .before .before .before .before .before .before .before .byte-count .ensures .0) (c .before .before .before .before .before .before .before .locate .ensures) (c .before .before .before .before .before .enum-told .given .1)) (at-within _ _ _ _ _ _ (c .before .before .before .before .before .before .before .before .byte-count .ensures .0) (c .before .before .before .before .locate2 .ensures) _ (c .before .before .i2 .given .1)) (at-offset _ _ _ _ _ _ (c .before .before .before .before .before .before .before .before .byte-count .ensures .0) (c .before .before .before .before .locate2 .ensures) _ (c .before .before .i2 .given .1)) (rw (c .before .before .before .before .before .before .before .before .byte-count .ensures .0) at (c .join2 .ensures))
 
--- src/memory.rt:87:1
 returns-3 : tie.Need-returns-3
 returns-3 c = load-nowhere _ _ _ _ (outside-not-within _ _ _ _ _ _ (c .before .before .before .before .before .before .byte-count .ensures .0) (c .before .before .before .before .before .locate .ensures) (c .before .before .before .enum-told .given .1)) (outside-not-within _ _ _ _ _ _ (c .before .before .before .before .before .before .byte-count .ensures .0) (c .before .before .locate2 .ensures) (c .enum-told2 .given .1))
 

@@ -4,25 +4,19 @@ use borrow.Author.Tests.{le-leb, lt-leb}
 use Rattle.machine.specs.Machine.{within}
 use Rattle.machine.proofs.memory.locate.Statement.{statement}
 use Rattle.machine.proofs.memory.locate.Tie as tie
-use Rattle.machine.proofs.memory.locate.Reads as reads
-use Rattle.machine.proofs.memory.locate.Lts as lts
 
--- src/memory.rt:45:9
 returns : tie.Need-returns
 unfolding within
 returns c = simp (lt-leb _ _ (c .if1 .taken))
 
--- src/memory.rt:49:9
 returns-2 : tie.Need-returns-2
 unfolding within
 returns-2 c = let a = c .before .before .args in simp (le-leb (a .base) (a .a) (omega arith), lt-leb (a .a + a .n) (a .base + a .len) (omega arith))
 
--- src/memory.rt:52:9
 returns-3 : tie.Need-returns-3
 unfolding within
 returns-3 c = let a = c .before .before .before .args in simp (le-leb (a .base) (a .a) (omega arith), lt-leb (a .a + a .n) (a .base + a .len) (omega arith))
 
--- src/memory.rt:41:1
 returns-4 : tie.Need-returns-4
 unfolding within
 returns-4 c = let a = c .before .before .before .args in simp (le-leb (a .base) (a .a) (omega arith), le-leb (a .a + a .n) (a .base + a .len) (omega arith))

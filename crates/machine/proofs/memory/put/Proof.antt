@@ -4,84 +4,62 @@ use Rattle.machine.specs.Machine.{bytes}
 use borrow.Author.Needs.{needs}
 use Rattle.machine.proofs.memory.put.Statement.{statement}
 use Rattle.machine.proofs.memory.put.Tie as tie
-use Rattle.machine.proofs.memory.put.Reads as reads
-use Rattle.machine.proofs.memory.put.Lts as lts
-use Rattle.machine.proofs.memory.put2.Reads as put2-reads
-use Rattle.machine.proofs.memory.put4.Reads as put4-reads
-use Rattle.machine.proofs.memory.put8.Reads as put8-reads
 
--- src/memory.rt:131:21
 enum-told : tie.Need-enum-told
 enum-told c = search needs
 
--- src/memory.rt:131:20
 cast-m : tie.Need-cast-m
 cast-m c = search needs
 
--- src/memory.rt:131:13
 slice-write-m : tie.Need-slice-write-m
 unfolding bytes
 slice-write-m c = let h = rw (c .enum-told .given .1) at (c .before .before .before .pre) in omega arith
 
--- src/memory.rt:133:27
 enum-told-2 : tie.Need-enum-told-2
 enum-told-2 c = search needs
 
--- src/memory.rt:133:22
 put2-requires : tie.Need-put2-requires
 unfolding bytes
 put2-requires c κs = rw (c .before .enum-told2 .given .1) at (c .before .before .before .before .pre)
 
--- src/memory.rt:134:28
 enum-told-3 : tie.Need-enum-told-3
 enum-told-3 c = search needs
 
--- src/memory.rt:134:23
 put4-requires : tie.Need-put4-requires
 unfolding bytes
 put4-requires c κs = rw (c .before .enum-told3 .given .1) at (c .before .before .before .before .pre)
 
--- src/memory.rt:135:29
 enum-told-4 : tie.Need-enum-told-4
 enum-told-4 c = search needs
 
--- src/memory.rt:135:24
 put8-requires : tie.Need-put8-requires
 unfolding bytes
 put8-requires c κs = rw (c .before .enum-told4 .given .1) at (c .before .before .before .before .pre)
 
--- src/memory.rt:125:1
 same-length : tie.Need-same-length
 same-length c = search needs
 
--- src/memory.rt:125:1
 returns : tie.Need-returns
 unfolding bytes writeBytes
 returns c = rw (c .enum-told .given .1)
 
--- src/memory.rt:125:1
 same-length-2 : tie.Need-same-length-2
 same-length-2 c = search needs
 
--- src/memory.rt:125:1
 returns-2 : tie.Need-returns-2
 unfolding bytes
 returns-2 c = rw (c .before .before .before .before .enum-told2 .given .1) (c .before .before .put2 .ensures)
 
--- src/memory.rt:125:1
 same-length-3 : tie.Need-same-length-3
 same-length-3 c = search needs
 
--- src/memory.rt:125:1
 returns-3 : tie.Need-returns-3
 unfolding bytes
 returns-3 c = rw (c .before .before .before .before .enum-told3 .given .1) (c .before .before .put4 .ensures)
 
--- src/memory.rt:125:1
 same-length-4 : tie.Need-same-length-4
 same-length-4 c = search needs
 
--- src/memory.rt:125:1
 returns-4 : tie.Need-returns-4
 unfolding bytes
 returns-4 c = rw (c .before .before .before .before .enum-told4 .given .1) (c .before .before .put8 .ensures)

@@ -3,27 +3,19 @@ use Rattle.word.proofs.Bytes.{write-splits}
 use borrow.Author.Needs.{needs}
 use Rattle.machine.proofs.memory.put8.Statement.{statement}
 use Rattle.machine.proofs.memory.put8.Tie as tie
-use Rattle.machine.proofs.memory.put8.Reads as reads
-use Rattle.machine.proofs.memory.put8.Lts as lts
-use Rattle.machine.proofs.memory.put4.Reads as put4-reads
 
--- src/memory.rt:120:5
 put4-requires : tie.Need-put4-requires
 put4-requires c κs = search needs
 
--- src/memory.rt:121:13
 add-put4 : tie.Need-add-put4
 add-put4 c = search needs
 
--- src/memory.rt:121:5
 put4-requires-2 : tie.Need-put4-requires-2
 put4-requires-2 c κs = search needs
 
--- src/memory.rt:116:1
 same-length : tie.Need-same-length
 same-length c = search needs
 
--- src/memory.rt:116:1
 returns : tie.Need-returns
 returns c = c .before .before .put42 .ensures ∙ rw (c .before .before .before .before .before .before .put4 .ensures) (sym (write-splits 4 4 _ _ _))
 

@@ -1,0 +1,78 @@
+use borrow.Author.Tests.{ne-eqb}
+use Rattle.machine.specs.Instruction.{byClass}
+use borrow.Author.Needs.{needs}
+use Rattle.machine.proofs.instruction.by_class.Statement.{statement}
+use Rattle.machine.proofs.instruction.by_class.Tie as tie
+
+arithmetic-requires : tie.Need-arithmetic-requires
+arithmetic-requires c κs = search needs
+
+arithmetic-requires-2 : tie.Need-arithmetic-requires-2
+arithmetic-requires-2 c κs = search needs
+
+jump-requires : tie.Need-jump-requires
+jump-requires c κs = search needs
+
+load-requires : tie.Need-load-requires
+load-requires c κs = search needs
+
+store-of-imm-requires : tie.Need-store-of-imm-requires
+store-of-imm-requires c κs = search needs
+
+store-of-src-requires : tie.Need-store-of-src-requires
+store-of-src-requires c κs = search needs
+
+returns : tie.Need-returns
+unfolding byClass
+returns c = rw (c .before .match .keys1) (c .arithmetic .ensures)
+
+returns-2 : tie.Need-returns-2
+unfolding byClass
+returns-2 c = rw (c .before .match .keys2) (c .arithmetic2 .ensures)
+
+returns-3 : tie.Need-returns-3
+unfolding byClass
+returns-3 c = rw (c .before .match .keys3) (c .jump .ensures)
+
+returns-4 : tie.Need-returns-4
+unfolding byClass
+returns-4 c = rw (c .before .match .keys4) (c .load .ensures)
+
+returns-5 : tie.Need-returns-5
+unfolding byClass
+returns-5 c = rw (c .before .match .keys5) (c .store-of-imm .ensures)
+
+returns-6 : tie.Need-returns-6
+unfolding byClass
+returns-6 c = rw (c .before .match .keys6) (c .store-of-src .ensures)
+
+returns-7 : tie.Need-returns-7
+unfolding byClass
+returns-7 c =
+    let m = c .match .rest in
+    simp (
+      ne-eqb _ _ (m .0 .0 .0 .0 .0 .1),
+      ne-eqb _ _ (m .0 .0 .0 .0 .1),
+      ne-eqb _ _ (m .0 .0 .0 .1),
+      ne-eqb _ _ (m .0 .0 .1),
+      ne-eqb _ _ (m .0 .1),
+      ne-eqb _ _ (m .1),
+    )
+
+pub by-class-spec : {M : Type 1} → statement M
+by-class-spec =
+    tie.close
+    (tie.spec
+    arithmetic-requires
+    arithmetic-requires-2
+    jump-requires
+    load-requires
+    store-of-imm-requires
+    store-of-src-requires
+    returns
+    returns-2
+    returns-3
+    returns-4
+    returns-5
+    returns-6
+    returns-7)

@@ -1,0 +1,36 @@
+use Prim.Native.Nat.{_+_}
+use native.Mathlib.Omega.{arith}
+use lib.ListN.{length}
+use borrow.Author.Tests.{le-leb, lt-leb}
+use Rattle.machine.specs.Instruction.{decode}
+use Rattle.machine.proofs.Fetch.{word-fields}
+use borrow.Author.Needs.{needs}
+use Rattle.machine.proofs.instruction.decode.Statement.{statement}
+use Rattle.machine.proofs.instruction.decode.Tie as tie
+
+returns : tie.Need-returns
+returns c = let a = c .before .before .args in simp (lt-leb (a .i + 8) (length (a .m .now)) (omega arith))
+
+sub-if2 : tie.Need-sub-if2
+sub-if2 c = search needs
+
+returns-2 : tie.Need-returns-2
+returns-2 c = let a = c .before .before .before .args in simp (lt-leb (a .i + 8) (length (a .m .now)) (omega arith))
+
+fetch-requires : tie.Need-fetch-requires
+fetch-requires c κs = search needs
+
+meaning-requires : tie.Need-meaning-requires
+meaning-requires c κs = search needs
+
+returns-3 : tie.Need-returns-3
+unfolding decode
+returns-3 c =
+    let a = c .before .before .before .before .before .args in
+    simp (le-leb (a .i + 8) (length (a .m .now)) (omega arith))
+    (rw (word-fields _ _ _ (λ j. c .before .before .before .before .shared-slice-known .given j .fits) (c .before .fetch .ensures))
+    (c .meaning .ensures))
+
+pub decode-spec : {M : Type 1} → statement M
+decode-spec =
+    tie.close (tie.spec returns sub-if2 returns-2 fetch-requires meaning-requires returns-3)
