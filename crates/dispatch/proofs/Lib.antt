@@ -1,0 +1,4 @@
+pub mod Answers
+pub mod Arms
+pub mod Registers
+pub mod Table

@@ -1,0 +1,16 @@
+use mathlib.Core.Path.{refl}
+use Rattle.word.specs.Word.{bit}
+use Rattle.dispatch.specs.Represent.{isSet}
+use borrow.Author.Needs.{needs}
+use Rattle.dispatch.proofs.commit.has.Statement.{statement}
+use Rattle.dispatch.proofs.commit.has.Tie as tie
+
+shr-result : tie.Need-shr-result
+shr-result c = search needs
+
+returns : tie.Need-returns
+unfolding isSet bit
+returns c = refl
+
+pub has-spec : {M : Type 1} → statement M
+has-spec = tie.close (tie.spec shr-result returns)

@@ -1,0 +1,2114 @@
+-- `obey` meets its contract: an arm is its format's law at its opcode, and what the opcode means computes.
+-- Assumes nothing.
+use mathlib.Core.Path.{_≡_, refl}
+use mathlib.Core.Bool.{Bool}
+use mathlib.Core.List.{List, [], _∷_}
+use Prim.Native.Nat.{ℕ}
+use borrow.Author.Needs.{needs}
+use Rattle.word.specs.declared.Operation.the-variants.{Add, Sub, Mul, Div, Or, And, Lsh, Rsh, Mod, Xor, Arsh}
+use Rattle.word.specs.declared.Comparison.the-variants.{Eq, Gt, Ge, Set, Ne, Sgt, Sge, Lt, Le, Slt, Sle}
+use Rattle.machine.specs.declared.instruction.Width.the-variants.{Long, Short}
+use Rattle.machine.specs.declared.instruction.Size.the-variants.{One, Two, Four, Eight}
+use Rattle.word.specs.Word.{cut, extend}
+use Rattle.machine.specs.Instruction.{readsDst, only, lookup, withOperand, operations, arithmetic, comparisons, jump, loads, storesOfImm, storesOfSrc, load, storeOfImm, storeOfSrc, byClass, meaning}
+use Rattle.machine.specs.Machine.{bits, isNoInstruction}
+use Rattle.machine.proofs.Opcodes.{fields-of-opcode}
+use Rattle.dispatch.proofs.Arms.{alu-immediate, alu-register, move-immediate, move-register, negation, jump-immediate, jump-register, always, ending, loading, storing-immediate, storing-register, no-arm}
+use Rattle.dispatch.proofs.Table.{default-holds}
+use Rattle.dispatch.proofs.obey.obey.Statement.{statement}
+use Rattle.dispatch.proofs.obey.obey.Tie as tie
+
+-- the opcodes in the order of the arms
+abbrev keys : List ℕ
+keys =
+    0x07 ∷ 0x0f ∷ 0x17 ∷ 0x1f ∷ 0x27 ∷ 0x2f ∷ 0x37 ∷ 0x3f ∷ 0x47 ∷ 0x4f ∷ 0x57 ∷ 0x5f ∷ 0x67 ∷ 0x6f ∷ 0x77 ∷ 0x7f
+    ∷ 0x87 ∷ 0x97 ∷ 0x9f ∷ 0xa7 ∷ 0xaf ∷ 0xb7 ∷ 0xbf ∷ 0xc7 ∷ 0xcf ∷ 0x04 ∷ 0x0c ∷ 0x14 ∷ 0x1c ∷ 0x24 ∷ 0x2c ∷
+    0x34 ∷ 0x3c ∷ 0x44 ∷ 0x4c ∷ 0x54 ∷ 0x5c ∷ 0x64 ∷ 0x6c ∷ 0x74 ∷ 0x7c ∷ 0x84 ∷ 0x94 ∷ 0x9c ∷ 0xa4 ∷ 0xac ∷ 0xb4
+    ∷ 0xbc ∷ 0xc4 ∷ 0xcc ∷ 0x05 ∷ 0x95 ∷ 0x15 ∷ 0x1d ∷ 0x25 ∷ 0x2d ∷ 0x35 ∷ 0x3d ∷ 0x45 ∷ 0x4d ∷ 0x55 ∷ 0x5d ∷
+    0x65 ∷ 0x6d ∷ 0x75 ∷ 0x7d ∷ 0xa5 ∷ 0xad ∷ 0xb5 ∷ 0xbd ∷ 0xc5 ∷ 0xcd ∷ 0xd5 ∷ 0xdd ∷ 0x71 ∷ 0x69 ∷ 0x61 ∷ 0x79
+    ∷ 0x72 ∷ 0x6a ∷ 0x62 ∷ 0x7a ∷ 0x73 ∷ 0x6b ∷ 0x63 ∷ 0x7b ∷ []
+
+-- the opcode alone is no instruction
+undecoded : ℕ → Bool
+unfolding cut extend only lookup withOperand operations arithmetic comparisons jump loads storesOfImm storesOfSrc load storeOfImm storeOfSrc byClass meaning fields-of-opcode isNoInstruction
+undecoded k = isNoInstruction (meaning (fields-of-opcode k))
+
+extend32-requires : tie.Need-extend32-requires
+extend32-requires c κs = search needs
+
+mul-add64 : tie.Need-mul-add64
+mul-add64 c = search needs
+
+element-copy-out-add64 : tie.Need-element-copy-out-add64
+element-copy-out-add64 c = search needs
+
+add64-requires : tie.Need-add64-requires
+add64-requires c κs = search needs
+
+put-immediate-requires : tie.Need-put-immediate-requires
+put-immediate-requires c κs = search needs
+
+mul-add64-2 : tie.Need-mul-add64-2
+mul-add64-2 c = search needs
+
+element-copy-out-add64-2 : tie.Need-element-copy-out-add64-2
+element-copy-out-add64-2 c = search needs
+
+mul-add64-3 : tie.Need-mul-add64-3
+mul-add64-3 c = search needs
+
+element-copy-out-add64-3 : tie.Need-element-copy-out-add64-3
+element-copy-out-add64-3 c = search needs
+
+add64-requires-2 : tie.Need-add64-requires-2
+add64-requires-2 c κs = search needs
+
+put-register-requires : tie.Need-put-register-requires
+put-register-requires c κs = search needs
+
+mul-sub64 : tie.Need-mul-sub64
+mul-sub64 c = search needs
+
+element-copy-out-sub64 : tie.Need-element-copy-out-sub64
+element-copy-out-sub64 c = search needs
+
+sub64-requires : tie.Need-sub64-requires
+sub64-requires c κs = search needs
+
+put-immediate-requires-2 : tie.Need-put-immediate-requires-2
+put-immediate-requires-2 c κs = search needs
+
+mul-sub64-2 : tie.Need-mul-sub64-2
+mul-sub64-2 c = search needs
+
+element-copy-out-sub64-2 : tie.Need-element-copy-out-sub64-2
+element-copy-out-sub64-2 c = search needs
+
+mul-sub64-3 : tie.Need-mul-sub64-3
+mul-sub64-3 c = search needs
+
+element-copy-out-sub64-3 : tie.Need-element-copy-out-sub64-3
+element-copy-out-sub64-3 c = search needs
+
+sub64-requires-2 : tie.Need-sub64-requires-2
+sub64-requires-2 c κs = search needs
+
+put-register-requires-2 : tie.Need-put-register-requires-2
+put-register-requires-2 c κs = search needs
+
+mul-mul64 : tie.Need-mul-mul64
+mul-mul64 c = search needs
+
+element-copy-out-mul64 : tie.Need-element-copy-out-mul64
+element-copy-out-mul64 c = search needs
+
+mul64-requires : tie.Need-mul64-requires
+mul64-requires c κs = search needs
+
+put-immediate-requires-3 : tie.Need-put-immediate-requires-3
+put-immediate-requires-3 c κs = search needs
+
+mul-mul64-2 : tie.Need-mul-mul64-2
+mul-mul64-2 c = search needs
+
+element-copy-out-mul64-2 : tie.Need-element-copy-out-mul64-2
+element-copy-out-mul64-2 c = search needs
+
+mul-mul64-3 : tie.Need-mul-mul64-3
+mul-mul64-3 c = search needs
+
+element-copy-out-mul64-3 : tie.Need-element-copy-out-mul64-3
+element-copy-out-mul64-3 c = search needs
+
+mul64-requires-2 : tie.Need-mul64-requires-2
+mul64-requires-2 c κs = search needs
+
+put-register-requires-3 : tie.Need-put-register-requires-3
+put-register-requires-3 c κs = search needs
+
+mul-div64 : tie.Need-mul-div64
+mul-div64 c = search needs
+
+element-copy-out-div64 : tie.Need-element-copy-out-div64
+element-copy-out-div64 c = search needs
+
+div64-requires : tie.Need-div64-requires
+div64-requires c κs = search needs
+
+put-immediate-requires-4 : tie.Need-put-immediate-requires-4
+put-immediate-requires-4 c κs = search needs
+
+mul-div64-2 : tie.Need-mul-div64-2
+mul-div64-2 c = search needs
+
+element-copy-out-div64-2 : tie.Need-element-copy-out-div64-2
+element-copy-out-div64-2 c = search needs
+
+mul-div64-3 : tie.Need-mul-div64-3
+mul-div64-3 c = search needs
+
+element-copy-out-div64-3 : tie.Need-element-copy-out-div64-3
+element-copy-out-div64-3 c = search needs
+
+div64-requires-2 : tie.Need-div64-requires-2
+div64-requires-2 c κs = search needs
+
+put-register-requires-4 : tie.Need-put-register-requires-4
+put-register-requires-4 c κs = search needs
+
+mul-or64 : tie.Need-mul-or64
+mul-or64 c = search needs
+
+element-copy-out-or64 : tie.Need-element-copy-out-or64
+element-copy-out-or64 c = search needs
+
+or64-requires : tie.Need-or64-requires
+or64-requires c κs = search needs
+
+put-immediate-requires-5 : tie.Need-put-immediate-requires-5
+put-immediate-requires-5 c κs = search needs
+
+mul-or64-2 : tie.Need-mul-or64-2
+mul-or64-2 c = search needs
+
+element-copy-out-or64-2 : tie.Need-element-copy-out-or64-2
+element-copy-out-or64-2 c = search needs
+
+mul-or64-3 : tie.Need-mul-or64-3
+mul-or64-3 c = search needs
+
+element-copy-out-or64-3 : tie.Need-element-copy-out-or64-3
+element-copy-out-or64-3 c = search needs
+
+or64-requires-2 : tie.Need-or64-requires-2
+or64-requires-2 c κs = search needs
+
+put-register-requires-5 : tie.Need-put-register-requires-5
+put-register-requires-5 c κs = search needs
+
+mul-and64 : tie.Need-mul-and64
+mul-and64 c = search needs
+
+element-copy-out-and64 : tie.Need-element-copy-out-and64
+element-copy-out-and64 c = search needs
+
+and64-requires : tie.Need-and64-requires
+and64-requires c κs = search needs
+
+put-immediate-requires-6 : tie.Need-put-immediate-requires-6
+put-immediate-requires-6 c κs = search needs
+
+mul-and64-2 : tie.Need-mul-and64-2
+mul-and64-2 c = search needs
+
+element-copy-out-and64-2 : tie.Need-element-copy-out-and64-2
+element-copy-out-and64-2 c = search needs
+
+mul-and64-3 : tie.Need-mul-and64-3
+mul-and64-3 c = search needs
+
+element-copy-out-and64-3 : tie.Need-element-copy-out-and64-3
+element-copy-out-and64-3 c = search needs
+
+and64-requires-2 : tie.Need-and64-requires-2
+and64-requires-2 c κs = search needs
+
+put-register-requires-6 : tie.Need-put-register-requires-6
+put-register-requires-6 c κs = search needs
+
+mul-lsh64 : tie.Need-mul-lsh64
+mul-lsh64 c = search needs
+
+element-copy-out-lsh64 : tie.Need-element-copy-out-lsh64
+element-copy-out-lsh64 c = search needs
+
+lsh64-requires : tie.Need-lsh64-requires
+lsh64-requires c κs = search needs
+
+put-immediate-requires-7 : tie.Need-put-immediate-requires-7
+put-immediate-requires-7 c κs = search needs
+
+mul-lsh64-2 : tie.Need-mul-lsh64-2
+mul-lsh64-2 c = search needs
+
+element-copy-out-lsh64-2 : tie.Need-element-copy-out-lsh64-2
+element-copy-out-lsh64-2 c = search needs
+
+mul-lsh64-3 : tie.Need-mul-lsh64-3
+mul-lsh64-3 c = search needs
+
+element-copy-out-lsh64-3 : tie.Need-element-copy-out-lsh64-3
+element-copy-out-lsh64-3 c = search needs
+
+lsh64-requires-2 : tie.Need-lsh64-requires-2
+lsh64-requires-2 c κs = search needs
+
+put-register-requires-7 : tie.Need-put-register-requires-7
+put-register-requires-7 c κs = search needs
+
+mul-rsh64 : tie.Need-mul-rsh64
+mul-rsh64 c = search needs
+
+element-copy-out-rsh64 : tie.Need-element-copy-out-rsh64
+element-copy-out-rsh64 c = search needs
+
+rsh64-requires : tie.Need-rsh64-requires
+rsh64-requires c κs = search needs
+
+put-immediate-requires-8 : tie.Need-put-immediate-requires-8
+put-immediate-requires-8 c κs = search needs
+
+mul-rsh64-2 : tie.Need-mul-rsh64-2
+mul-rsh64-2 c = search needs
+
+element-copy-out-rsh64-2 : tie.Need-element-copy-out-rsh64-2
+element-copy-out-rsh64-2 c = search needs
+
+mul-rsh64-3 : tie.Need-mul-rsh64-3
+mul-rsh64-3 c = search needs
+
+element-copy-out-rsh64-3 : tie.Need-element-copy-out-rsh64-3
+element-copy-out-rsh64-3 c = search needs
+
+rsh64-requires-2 : tie.Need-rsh64-requires-2
+rsh64-requires-2 c κs = search needs
+
+put-register-requires-8 : tie.Need-put-register-requires-8
+put-register-requires-8 c κs = search needs
+
+mul-neg64 : tie.Need-mul-neg64
+mul-neg64 c = search needs
+
+element-copy-out-neg64 : tie.Need-element-copy-out-neg64
+element-copy-out-neg64 c = search needs
+
+neg64-requires : tie.Need-neg64-requires
+neg64-requires c κs = search needs
+
+negate-requires : tie.Need-negate-requires
+negate-requires c κs = search needs
+
+mul-mod64 : tie.Need-mul-mod64
+mul-mod64 c = search needs
+
+element-copy-out-mod64 : tie.Need-element-copy-out-mod64
+element-copy-out-mod64 c = search needs
+
+mod64-requires : tie.Need-mod64-requires
+mod64-requires c κs = search needs
+
+put-immediate-requires-9 : tie.Need-put-immediate-requires-9
+put-immediate-requires-9 c κs = search needs
+
+mul-mod64-2 : tie.Need-mul-mod64-2
+mul-mod64-2 c = search needs
+
+element-copy-out-mod64-2 : tie.Need-element-copy-out-mod64-2
+element-copy-out-mod64-2 c = search needs
+
+mul-mod64-3 : tie.Need-mul-mod64-3
+mul-mod64-3 c = search needs
+
+element-copy-out-mod64-3 : tie.Need-element-copy-out-mod64-3
+element-copy-out-mod64-3 c = search needs
+
+mod64-requires-2 : tie.Need-mod64-requires-2
+mod64-requires-2 c κs = search needs
+
+put-register-requires-9 : tie.Need-put-register-requires-9
+put-register-requires-9 c κs = search needs
+
+mul-xor64 : tie.Need-mul-xor64
+mul-xor64 c = search needs
+
+element-copy-out-xor64 : tie.Need-element-copy-out-xor64
+element-copy-out-xor64 c = search needs
+
+xor64-requires : tie.Need-xor64-requires
+xor64-requires c κs = search needs
+
+put-immediate-requires-10 : tie.Need-put-immediate-requires-10
+put-immediate-requires-10 c κs = search needs
+
+mul-xor64-2 : tie.Need-mul-xor64-2
+mul-xor64-2 c = search needs
+
+element-copy-out-xor64-2 : tie.Need-element-copy-out-xor64-2
+element-copy-out-xor64-2 c = search needs
+
+mul-xor64-3 : tie.Need-mul-xor64-3
+mul-xor64-3 c = search needs
+
+element-copy-out-xor64-3 : tie.Need-element-copy-out-xor64-3
+element-copy-out-xor64-3 c = search needs
+
+xor64-requires-2 : tie.Need-xor64-requires-2
+xor64-requires-2 c κs = search needs
+
+put-register-requires-10 : tie.Need-put-register-requires-10
+put-register-requires-10 c κs = search needs
+
+mov64-requires : tie.Need-mov64-requires
+mov64-requires c κs = search needs
+
+move-immediate-requires : tie.Need-move-immediate-requires
+move-immediate-requires c κs = search needs
+
+mul-mov64 : tie.Need-mul-mov64
+mul-mov64 c = search needs
+
+element-copy-out-mov64 : tie.Need-element-copy-out-mov64
+element-copy-out-mov64 c = search needs
+
+mov64-requires-2 : tie.Need-mov64-requires-2
+mov64-requires-2 c κs = search needs
+
+move-register-requires : tie.Need-move-register-requires
+move-register-requires c κs = search needs
+
+mul-arsh64 : tie.Need-mul-arsh64
+mul-arsh64 c = search needs
+
+element-copy-out-arsh64 : tie.Need-element-copy-out-arsh64
+element-copy-out-arsh64 c = search needs
+
+arsh64-requires : tie.Need-arsh64-requires
+arsh64-requires c κs = search needs
+
+put-immediate-requires-11 : tie.Need-put-immediate-requires-11
+put-immediate-requires-11 c κs = search needs
+
+mul-arsh64-2 : tie.Need-mul-arsh64-2
+mul-arsh64-2 c = search needs
+
+element-copy-out-arsh64-2 : tie.Need-element-copy-out-arsh64-2
+element-copy-out-arsh64-2 c = search needs
+
+mul-arsh64-3 : tie.Need-mul-arsh64-3
+mul-arsh64-3 c = search needs
+
+element-copy-out-arsh64-3 : tie.Need-element-copy-out-arsh64-3
+element-copy-out-arsh64-3 c = search needs
+
+arsh64-requires-2 : tie.Need-arsh64-requires-2
+arsh64-requires-2 c κs = search needs
+
+put-register-requires-11 : tie.Need-put-register-requires-11
+put-register-requires-11 c κs = search needs
+
+mul-add32 : tie.Need-mul-add32
+mul-add32 c = search needs
+
+element-copy-out-add32 : tie.Need-element-copy-out-add32
+element-copy-out-add32 c = search needs
+
+add32-requires : tie.Need-add32-requires
+add32-requires c κs = search needs
+
+put-immediate-requires-12 : tie.Need-put-immediate-requires-12
+put-immediate-requires-12 c κs = search needs
+
+mul-add32-2 : tie.Need-mul-add32-2
+mul-add32-2 c = search needs
+
+element-copy-out-add32-2 : tie.Need-element-copy-out-add32-2
+element-copy-out-add32-2 c = search needs
+
+mul-add32-3 : tie.Need-mul-add32-3
+mul-add32-3 c = search needs
+
+element-copy-out-add32-3 : tie.Need-element-copy-out-add32-3
+element-copy-out-add32-3 c = search needs
+
+add32-requires-2 : tie.Need-add32-requires-2
+add32-requires-2 c κs = search needs
+
+put-register-requires-12 : tie.Need-put-register-requires-12
+put-register-requires-12 c κs = search needs
+
+mul-sub32 : tie.Need-mul-sub32
+mul-sub32 c = search needs
+
+element-copy-out-sub32 : tie.Need-element-copy-out-sub32
+element-copy-out-sub32 c = search needs
+
+sub32-requires : tie.Need-sub32-requires
+sub32-requires c κs = search needs
+
+put-immediate-requires-13 : tie.Need-put-immediate-requires-13
+put-immediate-requires-13 c κs = search needs
+
+mul-sub32-2 : tie.Need-mul-sub32-2
+mul-sub32-2 c = search needs
+
+element-copy-out-sub32-2 : tie.Need-element-copy-out-sub32-2
+element-copy-out-sub32-2 c = search needs
+
+mul-sub32-3 : tie.Need-mul-sub32-3
+mul-sub32-3 c = search needs
+
+element-copy-out-sub32-3 : tie.Need-element-copy-out-sub32-3
+element-copy-out-sub32-3 c = search needs
+
+sub32-requires-2 : tie.Need-sub32-requires-2
+sub32-requires-2 c κs = search needs
+
+put-register-requires-13 : tie.Need-put-register-requires-13
+put-register-requires-13 c κs = search needs
+
+mul-mul32 : tie.Need-mul-mul32
+mul-mul32 c = search needs
+
+element-copy-out-mul32 : tie.Need-element-copy-out-mul32
+element-copy-out-mul32 c = search needs
+
+mul32-requires : tie.Need-mul32-requires
+mul32-requires c κs = search needs
+
+put-immediate-requires-14 : tie.Need-put-immediate-requires-14
+put-immediate-requires-14 c κs = search needs
+
+mul-mul32-2 : tie.Need-mul-mul32-2
+mul-mul32-2 c = search needs
+
+element-copy-out-mul32-2 : tie.Need-element-copy-out-mul32-2
+element-copy-out-mul32-2 c = search needs
+
+mul-mul32-3 : tie.Need-mul-mul32-3
+mul-mul32-3 c = search needs
+
+element-copy-out-mul32-3 : tie.Need-element-copy-out-mul32-3
+element-copy-out-mul32-3 c = search needs
+
+mul32-requires-2 : tie.Need-mul32-requires-2
+mul32-requires-2 c κs = search needs
+
+put-register-requires-14 : tie.Need-put-register-requires-14
+put-register-requires-14 c κs = search needs
+
+mul-div32 : tie.Need-mul-div32
+mul-div32 c = search needs
+
+element-copy-out-div32 : tie.Need-element-copy-out-div32
+element-copy-out-div32 c = search needs
+
+div32-requires : tie.Need-div32-requires
+div32-requires c κs = search needs
+
+put-immediate-requires-15 : tie.Need-put-immediate-requires-15
+put-immediate-requires-15 c κs = search needs
+
+mul-div32-2 : tie.Need-mul-div32-2
+mul-div32-2 c = search needs
+
+element-copy-out-div32-2 : tie.Need-element-copy-out-div32-2
+element-copy-out-div32-2 c = search needs
+
+mul-div32-3 : tie.Need-mul-div32-3
+mul-div32-3 c = search needs
+
+element-copy-out-div32-3 : tie.Need-element-copy-out-div32-3
+element-copy-out-div32-3 c = search needs
+
+div32-requires-2 : tie.Need-div32-requires-2
+div32-requires-2 c κs = search needs
+
+put-register-requires-15 : tie.Need-put-register-requires-15
+put-register-requires-15 c κs = search needs
+
+mul-or32 : tie.Need-mul-or32
+mul-or32 c = search needs
+
+element-copy-out-or32 : tie.Need-element-copy-out-or32
+element-copy-out-or32 c = search needs
+
+or32-requires : tie.Need-or32-requires
+or32-requires c κs = search needs
+
+put-immediate-requires-16 : tie.Need-put-immediate-requires-16
+put-immediate-requires-16 c κs = search needs
+
+mul-or32-2 : tie.Need-mul-or32-2
+mul-or32-2 c = search needs
+
+element-copy-out-or32-2 : tie.Need-element-copy-out-or32-2
+element-copy-out-or32-2 c = search needs
+
+mul-or32-3 : tie.Need-mul-or32-3
+mul-or32-3 c = search needs
+
+element-copy-out-or32-3 : tie.Need-element-copy-out-or32-3
+element-copy-out-or32-3 c = search needs
+
+or32-requires-2 : tie.Need-or32-requires-2
+or32-requires-2 c κs = search needs
+
+put-register-requires-16 : tie.Need-put-register-requires-16
+put-register-requires-16 c κs = search needs
+
+mul-and32 : tie.Need-mul-and32
+mul-and32 c = search needs
+
+element-copy-out-and32 : tie.Need-element-copy-out-and32
+element-copy-out-and32 c = search needs
+
+and32-requires : tie.Need-and32-requires
+and32-requires c κs = search needs
+
+put-immediate-requires-17 : tie.Need-put-immediate-requires-17
+put-immediate-requires-17 c κs = search needs
+
+mul-and32-2 : tie.Need-mul-and32-2
+mul-and32-2 c = search needs
+
+element-copy-out-and32-2 : tie.Need-element-copy-out-and32-2
+element-copy-out-and32-2 c = search needs
+
+mul-and32-3 : tie.Need-mul-and32-3
+mul-and32-3 c = search needs
+
+element-copy-out-and32-3 : tie.Need-element-copy-out-and32-3
+element-copy-out-and32-3 c = search needs
+
+and32-requires-2 : tie.Need-and32-requires-2
+and32-requires-2 c κs = search needs
+
+put-register-requires-17 : tie.Need-put-register-requires-17
+put-register-requires-17 c κs = search needs
+
+mul-lsh32 : tie.Need-mul-lsh32
+mul-lsh32 c = search needs
+
+element-copy-out-lsh32 : tie.Need-element-copy-out-lsh32
+element-copy-out-lsh32 c = search needs
+
+lsh32-requires : tie.Need-lsh32-requires
+lsh32-requires c κs = search needs
+
+put-immediate-requires-18 : tie.Need-put-immediate-requires-18
+put-immediate-requires-18 c κs = search needs
+
+mul-lsh32-2 : tie.Need-mul-lsh32-2
+mul-lsh32-2 c = search needs
+
+element-copy-out-lsh32-2 : tie.Need-element-copy-out-lsh32-2
+element-copy-out-lsh32-2 c = search needs
+
+mul-lsh32-3 : tie.Need-mul-lsh32-3
+mul-lsh32-3 c = search needs
+
+element-copy-out-lsh32-3 : tie.Need-element-copy-out-lsh32-3
+element-copy-out-lsh32-3 c = search needs
+
+lsh32-requires-2 : tie.Need-lsh32-requires-2
+lsh32-requires-2 c κs = search needs
+
+put-register-requires-18 : tie.Need-put-register-requires-18
+put-register-requires-18 c κs = search needs
+
+mul-rsh32 : tie.Need-mul-rsh32
+mul-rsh32 c = search needs
+
+element-copy-out-rsh32 : tie.Need-element-copy-out-rsh32
+element-copy-out-rsh32 c = search needs
+
+rsh32-requires : tie.Need-rsh32-requires
+rsh32-requires c κs = search needs
+
+put-immediate-requires-19 : tie.Need-put-immediate-requires-19
+put-immediate-requires-19 c κs = search needs
+
+mul-rsh32-2 : tie.Need-mul-rsh32-2
+mul-rsh32-2 c = search needs
+
+element-copy-out-rsh32-2 : tie.Need-element-copy-out-rsh32-2
+element-copy-out-rsh32-2 c = search needs
+
+mul-rsh32-3 : tie.Need-mul-rsh32-3
+mul-rsh32-3 c = search needs
+
+element-copy-out-rsh32-3 : tie.Need-element-copy-out-rsh32-3
+element-copy-out-rsh32-3 c = search needs
+
+rsh32-requires-2 : tie.Need-rsh32-requires-2
+rsh32-requires-2 c κs = search needs
+
+put-register-requires-19 : tie.Need-put-register-requires-19
+put-register-requires-19 c κs = search needs
+
+mul-neg32 : tie.Need-mul-neg32
+mul-neg32 c = search needs
+
+element-copy-out-neg32 : tie.Need-element-copy-out-neg32
+element-copy-out-neg32 c = search needs
+
+neg32-requires : tie.Need-neg32-requires
+neg32-requires c κs = search needs
+
+negate-requires-2 : tie.Need-negate-requires-2
+negate-requires-2 c κs = search needs
+
+mul-mod32 : tie.Need-mul-mod32
+mul-mod32 c = search needs
+
+element-copy-out-mod32 : tie.Need-element-copy-out-mod32
+element-copy-out-mod32 c = search needs
+
+mod32-requires : tie.Need-mod32-requires
+mod32-requires c κs = search needs
+
+put-immediate-requires-20 : tie.Need-put-immediate-requires-20
+put-immediate-requires-20 c κs = search needs
+
+mul-mod32-2 : tie.Need-mul-mod32-2
+mul-mod32-2 c = search needs
+
+element-copy-out-mod32-2 : tie.Need-element-copy-out-mod32-2
+element-copy-out-mod32-2 c = search needs
+
+mul-mod32-3 : tie.Need-mul-mod32-3
+mul-mod32-3 c = search needs
+
+element-copy-out-mod32-3 : tie.Need-element-copy-out-mod32-3
+element-copy-out-mod32-3 c = search needs
+
+mod32-requires-2 : tie.Need-mod32-requires-2
+mod32-requires-2 c κs = search needs
+
+put-register-requires-20 : tie.Need-put-register-requires-20
+put-register-requires-20 c κs = search needs
+
+mul-xor32 : tie.Need-mul-xor32
+mul-xor32 c = search needs
+
+element-copy-out-xor32 : tie.Need-element-copy-out-xor32
+element-copy-out-xor32 c = search needs
+
+xor32-requires : tie.Need-xor32-requires
+xor32-requires c κs = search needs
+
+put-immediate-requires-21 : tie.Need-put-immediate-requires-21
+put-immediate-requires-21 c κs = search needs
+
+mul-xor32-2 : tie.Need-mul-xor32-2
+mul-xor32-2 c = search needs
+
+element-copy-out-xor32-2 : tie.Need-element-copy-out-xor32-2
+element-copy-out-xor32-2 c = search needs
+
+mul-xor32-3 : tie.Need-mul-xor32-3
+mul-xor32-3 c = search needs
+
+element-copy-out-xor32-3 : tie.Need-element-copy-out-xor32-3
+element-copy-out-xor32-3 c = search needs
+
+xor32-requires-2 : tie.Need-xor32-requires-2
+xor32-requires-2 c κs = search needs
+
+put-register-requires-21 : tie.Need-put-register-requires-21
+put-register-requires-21 c κs = search needs
+
+mov32-requires : tie.Need-mov32-requires
+mov32-requires c κs = search needs
+
+move-immediate-requires-2 : tie.Need-move-immediate-requires-2
+move-immediate-requires-2 c κs = search needs
+
+mul-mov32 : tie.Need-mul-mov32
+mul-mov32 c = search needs
+
+element-copy-out-mov32 : tie.Need-element-copy-out-mov32
+element-copy-out-mov32 c = search needs
+
+mov32-requires-2 : tie.Need-mov32-requires-2
+mov32-requires-2 c κs = search needs
+
+move-register-requires-2 : tie.Need-move-register-requires-2
+move-register-requires-2 c κs = search needs
+
+mul-arsh32 : tie.Need-mul-arsh32
+mul-arsh32 c = search needs
+
+element-copy-out-arsh32 : tie.Need-element-copy-out-arsh32
+element-copy-out-arsh32 c = search needs
+
+arsh32-requires : tie.Need-arsh32-requires
+arsh32-requires c κs = search needs
+
+put-immediate-requires-22 : tie.Need-put-immediate-requires-22
+put-immediate-requires-22 c κs = search needs
+
+mul-arsh32-2 : tie.Need-mul-arsh32-2
+mul-arsh32-2 c = search needs
+
+element-copy-out-arsh32-2 : tie.Need-element-copy-out-arsh32-2
+element-copy-out-arsh32-2 c = search needs
+
+mul-arsh32-3 : tie.Need-mul-arsh32-3
+mul-arsh32-3 c = search needs
+
+element-copy-out-arsh32-3 : tie.Need-element-copy-out-arsh32-3
+element-copy-out-arsh32-3 c = search needs
+
+arsh32-requires-2 : tie.Need-arsh32-requires-2
+arsh32-requires-2 c κs = search needs
+
+put-register-requires-22 : tie.Need-put-register-requires-22
+put-register-requires-22 c κs = search needs
+
+jump-always-requires : tie.Need-jump-always-requires
+jump-always-requires c κs = search needs
+
+element-copy-out-exit : tie.Need-element-copy-out-exit
+element-copy-out-exit c = search needs
+
+exit-requires : tie.Need-exit-requires
+exit-requires c κs = search needs
+
+mul-eq64 : tie.Need-mul-eq64
+mul-eq64 c = search needs
+
+element-copy-out-eq64 : tie.Need-element-copy-out-eq64
+element-copy-out-eq64 c = search needs
+
+eq64-requires : tie.Need-eq64-requires
+eq64-requires c κs = search needs
+
+jump-immediate-requires : tie.Need-jump-immediate-requires
+jump-immediate-requires c κs = search needs
+
+mul-eq64-2 : tie.Need-mul-eq64-2
+mul-eq64-2 c = search needs
+
+element-copy-out-eq64-2 : tie.Need-element-copy-out-eq64-2
+element-copy-out-eq64-2 c = search needs
+
+mul-eq64-3 : tie.Need-mul-eq64-3
+mul-eq64-3 c = search needs
+
+element-copy-out-eq64-3 : tie.Need-element-copy-out-eq64-3
+element-copy-out-eq64-3 c = search needs
+
+eq64-requires-2 : tie.Need-eq64-requires-2
+eq64-requires-2 c κs = search needs
+
+jump-register-requires : tie.Need-jump-register-requires
+jump-register-requires c κs = search needs
+
+mul-gt64 : tie.Need-mul-gt64
+mul-gt64 c = search needs
+
+element-copy-out-gt64 : tie.Need-element-copy-out-gt64
+element-copy-out-gt64 c = search needs
+
+gt64-requires : tie.Need-gt64-requires
+gt64-requires c κs = search needs
+
+jump-immediate-requires-2 : tie.Need-jump-immediate-requires-2
+jump-immediate-requires-2 c κs = search needs
+
+mul-gt64-2 : tie.Need-mul-gt64-2
+mul-gt64-2 c = search needs
+
+element-copy-out-gt64-2 : tie.Need-element-copy-out-gt64-2
+element-copy-out-gt64-2 c = search needs
+
+mul-gt64-3 : tie.Need-mul-gt64-3
+mul-gt64-3 c = search needs
+
+element-copy-out-gt64-3 : tie.Need-element-copy-out-gt64-3
+element-copy-out-gt64-3 c = search needs
+
+gt64-requires-2 : tie.Need-gt64-requires-2
+gt64-requires-2 c κs = search needs
+
+jump-register-requires-2 : tie.Need-jump-register-requires-2
+jump-register-requires-2 c κs = search needs
+
+mul-ge64 : tie.Need-mul-ge64
+mul-ge64 c = search needs
+
+element-copy-out-ge64 : tie.Need-element-copy-out-ge64
+element-copy-out-ge64 c = search needs
+
+ge64-requires : tie.Need-ge64-requires
+ge64-requires c κs = search needs
+
+jump-immediate-requires-3 : tie.Need-jump-immediate-requires-3
+jump-immediate-requires-3 c κs = search needs
+
+mul-ge64-2 : tie.Need-mul-ge64-2
+mul-ge64-2 c = search needs
+
+element-copy-out-ge64-2 : tie.Need-element-copy-out-ge64-2
+element-copy-out-ge64-2 c = search needs
+
+mul-ge64-3 : tie.Need-mul-ge64-3
+mul-ge64-3 c = search needs
+
+element-copy-out-ge64-3 : tie.Need-element-copy-out-ge64-3
+element-copy-out-ge64-3 c = search needs
+
+ge64-requires-2 : tie.Need-ge64-requires-2
+ge64-requires-2 c κs = search needs
+
+jump-register-requires-3 : tie.Need-jump-register-requires-3
+jump-register-requires-3 c κs = search needs
+
+mul-set64 : tie.Need-mul-set64
+mul-set64 c = search needs
+
+element-copy-out-set64 : tie.Need-element-copy-out-set64
+element-copy-out-set64 c = search needs
+
+set64-requires : tie.Need-set64-requires
+set64-requires c κs = search needs
+
+jump-immediate-requires-4 : tie.Need-jump-immediate-requires-4
+jump-immediate-requires-4 c κs = search needs
+
+mul-set64-2 : tie.Need-mul-set64-2
+mul-set64-2 c = search needs
+
+element-copy-out-set64-2 : tie.Need-element-copy-out-set64-2
+element-copy-out-set64-2 c = search needs
+
+mul-set64-3 : tie.Need-mul-set64-3
+mul-set64-3 c = search needs
+
+element-copy-out-set64-3 : tie.Need-element-copy-out-set64-3
+element-copy-out-set64-3 c = search needs
+
+set64-requires-2 : tie.Need-set64-requires-2
+set64-requires-2 c κs = search needs
+
+jump-register-requires-4 : tie.Need-jump-register-requires-4
+jump-register-requires-4 c κs = search needs
+
+mul-ne64 : tie.Need-mul-ne64
+mul-ne64 c = search needs
+
+element-copy-out-ne64 : tie.Need-element-copy-out-ne64
+element-copy-out-ne64 c = search needs
+
+ne64-requires : tie.Need-ne64-requires
+ne64-requires c κs = search needs
+
+jump-immediate-requires-5 : tie.Need-jump-immediate-requires-5
+jump-immediate-requires-5 c κs = search needs
+
+mul-ne64-2 : tie.Need-mul-ne64-2
+mul-ne64-2 c = search needs
+
+element-copy-out-ne64-2 : tie.Need-element-copy-out-ne64-2
+element-copy-out-ne64-2 c = search needs
+
+mul-ne64-3 : tie.Need-mul-ne64-3
+mul-ne64-3 c = search needs
+
+element-copy-out-ne64-3 : tie.Need-element-copy-out-ne64-3
+element-copy-out-ne64-3 c = search needs
+
+ne64-requires-2 : tie.Need-ne64-requires-2
+ne64-requires-2 c κs = search needs
+
+jump-register-requires-5 : tie.Need-jump-register-requires-5
+jump-register-requires-5 c κs = search needs
+
+mul-sgt64 : tie.Need-mul-sgt64
+mul-sgt64 c = search needs
+
+element-copy-out-sgt64 : tie.Need-element-copy-out-sgt64
+element-copy-out-sgt64 c = search needs
+
+sgt64-requires : tie.Need-sgt64-requires
+sgt64-requires c κs = search needs
+
+jump-immediate-requires-6 : tie.Need-jump-immediate-requires-6
+jump-immediate-requires-6 c κs = search needs
+
+mul-sgt64-2 : tie.Need-mul-sgt64-2
+mul-sgt64-2 c = search needs
+
+element-copy-out-sgt64-2 : tie.Need-element-copy-out-sgt64-2
+element-copy-out-sgt64-2 c = search needs
+
+mul-sgt64-3 : tie.Need-mul-sgt64-3
+mul-sgt64-3 c = search needs
+
+element-copy-out-sgt64-3 : tie.Need-element-copy-out-sgt64-3
+element-copy-out-sgt64-3 c = search needs
+
+sgt64-requires-2 : tie.Need-sgt64-requires-2
+sgt64-requires-2 c κs = search needs
+
+jump-register-requires-6 : tie.Need-jump-register-requires-6
+jump-register-requires-6 c κs = search needs
+
+mul-sge64 : tie.Need-mul-sge64
+mul-sge64 c = search needs
+
+element-copy-out-sge64 : tie.Need-element-copy-out-sge64
+element-copy-out-sge64 c = search needs
+
+sge64-requires : tie.Need-sge64-requires
+sge64-requires c κs = search needs
+
+jump-immediate-requires-7 : tie.Need-jump-immediate-requires-7
+jump-immediate-requires-7 c κs = search needs
+
+mul-sge64-2 : tie.Need-mul-sge64-2
+mul-sge64-2 c = search needs
+
+element-copy-out-sge64-2 : tie.Need-element-copy-out-sge64-2
+element-copy-out-sge64-2 c = search needs
+
+mul-sge64-3 : tie.Need-mul-sge64-3
+mul-sge64-3 c = search needs
+
+element-copy-out-sge64-3 : tie.Need-element-copy-out-sge64-3
+element-copy-out-sge64-3 c = search needs
+
+sge64-requires-2 : tie.Need-sge64-requires-2
+sge64-requires-2 c κs = search needs
+
+jump-register-requires-7 : tie.Need-jump-register-requires-7
+jump-register-requires-7 c κs = search needs
+
+mul-lt64 : tie.Need-mul-lt64
+mul-lt64 c = search needs
+
+element-copy-out-lt64 : tie.Need-element-copy-out-lt64
+element-copy-out-lt64 c = search needs
+
+lt64-requires : tie.Need-lt64-requires
+lt64-requires c κs = search needs
+
+jump-immediate-requires-8 : tie.Need-jump-immediate-requires-8
+jump-immediate-requires-8 c κs = search needs
+
+mul-lt64-2 : tie.Need-mul-lt64-2
+mul-lt64-2 c = search needs
+
+element-copy-out-lt64-2 : tie.Need-element-copy-out-lt64-2
+element-copy-out-lt64-2 c = search needs
+
+mul-lt64-3 : tie.Need-mul-lt64-3
+mul-lt64-3 c = search needs
+
+element-copy-out-lt64-3 : tie.Need-element-copy-out-lt64-3
+element-copy-out-lt64-3 c = search needs
+
+lt64-requires-2 : tie.Need-lt64-requires-2
+lt64-requires-2 c κs = search needs
+
+jump-register-requires-8 : tie.Need-jump-register-requires-8
+jump-register-requires-8 c κs = search needs
+
+mul-le64 : tie.Need-mul-le64
+mul-le64 c = search needs
+
+element-copy-out-le64 : tie.Need-element-copy-out-le64
+element-copy-out-le64 c = search needs
+
+le64-requires : tie.Need-le64-requires
+le64-requires c κs = search needs
+
+jump-immediate-requires-9 : tie.Need-jump-immediate-requires-9
+jump-immediate-requires-9 c κs = search needs
+
+mul-le64-2 : tie.Need-mul-le64-2
+mul-le64-2 c = search needs
+
+element-copy-out-le64-2 : tie.Need-element-copy-out-le64-2
+element-copy-out-le64-2 c = search needs
+
+mul-le64-3 : tie.Need-mul-le64-3
+mul-le64-3 c = search needs
+
+element-copy-out-le64-3 : tie.Need-element-copy-out-le64-3
+element-copy-out-le64-3 c = search needs
+
+le64-requires-2 : tie.Need-le64-requires-2
+le64-requires-2 c κs = search needs
+
+jump-register-requires-9 : tie.Need-jump-register-requires-9
+jump-register-requires-9 c κs = search needs
+
+mul-slt64 : tie.Need-mul-slt64
+mul-slt64 c = search needs
+
+element-copy-out-slt64 : tie.Need-element-copy-out-slt64
+element-copy-out-slt64 c = search needs
+
+slt64-requires : tie.Need-slt64-requires
+slt64-requires c κs = search needs
+
+jump-immediate-requires-10 : tie.Need-jump-immediate-requires-10
+jump-immediate-requires-10 c κs = search needs
+
+mul-slt64-2 : tie.Need-mul-slt64-2
+mul-slt64-2 c = search needs
+
+element-copy-out-slt64-2 : tie.Need-element-copy-out-slt64-2
+element-copy-out-slt64-2 c = search needs
+
+mul-slt64-3 : tie.Need-mul-slt64-3
+mul-slt64-3 c = search needs
+
+element-copy-out-slt64-3 : tie.Need-element-copy-out-slt64-3
+element-copy-out-slt64-3 c = search needs
+
+slt64-requires-2 : tie.Need-slt64-requires-2
+slt64-requires-2 c κs = search needs
+
+jump-register-requires-10 : tie.Need-jump-register-requires-10
+jump-register-requires-10 c κs = search needs
+
+mul-sle64 : tie.Need-mul-sle64
+mul-sle64 c = search needs
+
+element-copy-out-sle64 : tie.Need-element-copy-out-sle64
+element-copy-out-sle64 c = search needs
+
+sle64-requires : tie.Need-sle64-requires
+sle64-requires c κs = search needs
+
+jump-immediate-requires-11 : tie.Need-jump-immediate-requires-11
+jump-immediate-requires-11 c κs = search needs
+
+mul-sle64-2 : tie.Need-mul-sle64-2
+mul-sle64-2 c = search needs
+
+element-copy-out-sle64-2 : tie.Need-element-copy-out-sle64-2
+element-copy-out-sle64-2 c = search needs
+
+mul-sle64-3 : tie.Need-mul-sle64-3
+mul-sle64-3 c = search needs
+
+element-copy-out-sle64-3 : tie.Need-element-copy-out-sle64-3
+element-copy-out-sle64-3 c = search needs
+
+sle64-requires-2 : tie.Need-sle64-requires-2
+sle64-requires-2 c κs = search needs
+
+jump-register-requires-11 : tie.Need-jump-register-requires-11
+jump-register-requires-11 c κs = search needs
+
+mul-load-into : tie.Need-mul-load-into
+mul-load-into c = search needs
+
+element-copy-out-load-into : tie.Need-element-copy-out-load-into
+element-copy-out-load-into c = search needs
+
+load-into-requires : tie.Need-load-into-requires
+load-into-requires c κs = search needs
+
+mul-load-into-2 : tie.Need-mul-load-into-2
+mul-load-into-2 c = search needs
+
+element-copy-out-load-into-2 : tie.Need-element-copy-out-load-into-2
+element-copy-out-load-into-2 c = search needs
+
+load-into-requires-2 : tie.Need-load-into-requires-2
+load-into-requires-2 c κs = search needs
+
+mul-load-into-3 : tie.Need-mul-load-into-3
+mul-load-into-3 c = search needs
+
+element-copy-out-load-into-3 : tie.Need-element-copy-out-load-into-3
+element-copy-out-load-into-3 c = search needs
+
+load-into-requires-3 : tie.Need-load-into-requires-3
+load-into-requires-3 c κs = search needs
+
+mul-load-into-4 : tie.Need-mul-load-into-4
+mul-load-into-4 c = search needs
+
+element-copy-out-load-into-4 : tie.Need-element-copy-out-load-into-4
+element-copy-out-load-into-4 c = search needs
+
+load-into-requires-4 : tie.Need-load-into-requires-4
+load-into-requires-4 c κs = search needs
+
+mul-store-immediate : tie.Need-mul-store-immediate
+mul-store-immediate c = search needs
+
+element-copy-out-store-immediate : tie.Need-element-copy-out-store-immediate
+element-copy-out-store-immediate c = search needs
+
+store-immediate-requires : tie.Need-store-immediate-requires
+store-immediate-requires c κs = search needs
+
+mul-store-immediate-2 : tie.Need-mul-store-immediate-2
+mul-store-immediate-2 c = search needs
+
+element-copy-out-store-immediate-2 : tie.Need-element-copy-out-store-immediate-2
+element-copy-out-store-immediate-2 c = search needs
+
+store-immediate-requires-2 : tie.Need-store-immediate-requires-2
+store-immediate-requires-2 c κs = search needs
+
+mul-store-immediate-3 : tie.Need-mul-store-immediate-3
+mul-store-immediate-3 c = search needs
+
+element-copy-out-store-immediate-3 : tie.Need-element-copy-out-store-immediate-3
+element-copy-out-store-immediate-3 c = search needs
+
+store-immediate-requires-3 : tie.Need-store-immediate-requires-3
+store-immediate-requires-3 c κs = search needs
+
+mul-store-immediate-4 : tie.Need-mul-store-immediate-4
+mul-store-immediate-4 c = search needs
+
+element-copy-out-store-immediate-4 : tie.Need-element-copy-out-store-immediate-4
+element-copy-out-store-immediate-4 c = search needs
+
+store-immediate-requires-4 : tie.Need-store-immediate-requires-4
+store-immediate-requires-4 c κs = search needs
+
+mul-store-register : tie.Need-mul-store-register
+mul-store-register c = search needs
+
+element-copy-out-store-register : tie.Need-element-copy-out-store-register
+element-copy-out-store-register c = search needs
+
+mul-store-register-2 : tie.Need-mul-store-register-2
+mul-store-register-2 c = search needs
+
+element-copy-out-store-register-2 : tie.Need-element-copy-out-store-register-2
+element-copy-out-store-register-2 c = search needs
+
+store-register-requires : tie.Need-store-register-requires
+store-register-requires c κs = search needs
+
+mul-store-register-3 : tie.Need-mul-store-register-3
+mul-store-register-3 c = search needs
+
+element-copy-out-store-register-3 : tie.Need-element-copy-out-store-register-3
+element-copy-out-store-register-3 c = search needs
+
+mul-store-register-4 : tie.Need-mul-store-register-4
+mul-store-register-4 c = search needs
+
+element-copy-out-store-register-4 : tie.Need-element-copy-out-store-register-4
+element-copy-out-store-register-4 c = search needs
+
+store-register-requires-2 : tie.Need-store-register-requires-2
+store-register-requires-2 c κs = search needs
+
+mul-store-register-5 : tie.Need-mul-store-register-5
+mul-store-register-5 c = search needs
+
+element-copy-out-store-register-5 : tie.Need-element-copy-out-store-register-5
+element-copy-out-store-register-5 c = search needs
+
+mul-store-register-6 : tie.Need-mul-store-register-6
+mul-store-register-6 c = search needs
+
+element-copy-out-store-register-6 : tie.Need-element-copy-out-store-register-6
+element-copy-out-store-register-6 c = search needs
+
+store-register-requires-3 : tie.Need-store-register-requires-3
+store-register-requires-3 c κs = search needs
+
+mul-store-register-7 : tie.Need-mul-store-register-7
+mul-store-register-7 c = search needs
+
+element-copy-out-store-register-7 : tie.Need-element-copy-out-store-register-7
+element-copy-out-store-register-7 c = search needs
+
+mul-store-register-8 : tie.Need-mul-store-register-8
+mul-store-register-8 c = search needs
+
+element-copy-out-store-register-8 : tie.Need-element-copy-out-store-register-8
+element-copy-out-store-register-8 c = search needs
+
+store-register-requires-4 : tie.Need-store-register-requires-4
+store-register-requires-4 c κs = search needs
+
+returns : tie.Need-returns
+unfolding bits readsDst only lookup withOperand operations arithmetic comparisons jump loads storesOfImm storesOfSrc load storeOfImm storeOfSrc byClass
+returns c = alu-immediate _ _ _ _ _ _ _ _ _ _ (c .before .before .before .before .before .before .before .before .pre .1 .0 .dst-named) (c .before .before .before .before .before .before .before .before .pre .1 .1) _ Long Add _ _ (c .before .before .before .before .match .keys1) refl refl (c .before .before .before .before .before .extend32 .ensures) (c .before .before .add64 .ensures) (c .put-immediate .ensures (c .before .before .before .before .before .before .before .before .args .stack .now))
+
+returns-2 : tie.Need-returns-2
+unfolding bits readsDst only lookup withOperand operations arithmetic comparisons jump loads storesOfImm storesOfSrc load storeOfImm storeOfSrc byClass
+returns-2 c = alu-register _ _ _ _ _ _ _ _ _ _ (c .before .before .before .before .before .before .before .before .before .pre .1 .0 .dst-named) (c .before .before .before .before .before .before .before .before .before .pre .1 .1) _ Long Add _ (c .before .before .before .before .before .match .keys2) refl refl (c .before .before .add642 .ensures) (c .put-register .ensures (c .before .before .before .before .before .before .before .before .before .args .stack .now))
+
+returns-3 : tie.Need-returns-3
+unfolding bits readsDst only lookup withOperand operations arithmetic comparisons jump loads storesOfImm storesOfSrc load storeOfImm storeOfSrc byClass
+returns-3 c = alu-immediate _ _ _ _ _ _ _ _ _ _ (c .before .before .before .before .before .before .before .before .pre .1 .0 .dst-named) (c .before .before .before .before .before .before .before .before .pre .1 .1) _ Long Sub _ _ (c .before .before .before .before .match .keys3) refl refl (c .before .before .before .before .before .extend32 .ensures) (c .before .before .sub64 .ensures) (c .put-immediate2 .ensures (c .before .before .before .before .before .before .before .before .args .stack .now))
+
+returns-4 : tie.Need-returns-4
+unfolding bits readsDst only lookup withOperand operations arithmetic comparisons jump loads storesOfImm storesOfSrc load storeOfImm storeOfSrc byClass
+returns-4 c = alu-register _ _ _ _ _ _ _ _ _ _ (c .before .before .before .before .before .before .before .before .before .pre .1 .0 .dst-named) (c .before .before .before .before .before .before .before .before .before .pre .1 .1) _ Long Sub _ (c .before .before .before .before .before .match .keys4) refl refl (c .before .before .sub642 .ensures) (c .put-register2 .ensures (c .before .before .before .before .before .before .before .before .before .args .stack .now))
+
+returns-5 : tie.Need-returns-5
+unfolding bits readsDst only lookup withOperand operations arithmetic comparisons jump loads storesOfImm storesOfSrc load storeOfImm storeOfSrc byClass
+returns-5 c = alu-immediate _ _ _ _ _ _ _ _ _ _ (c .before .before .before .before .before .before .before .before .pre .1 .0 .dst-named) (c .before .before .before .before .before .before .before .before .pre .1 .1) _ Long Mul _ _ (c .before .before .before .before .match .keys5) refl refl (c .before .before .before .before .before .extend32 .ensures) (c .before .before .mul64 .ensures) (c .put-immediate3 .ensures (c .before .before .before .before .before .before .before .before .args .stack .now))
+
+returns-6 : tie.Need-returns-6
+unfolding bits readsDst only lookup withOperand operations arithmetic comparisons jump loads storesOfImm storesOfSrc load storeOfImm storeOfSrc byClass
+returns-6 c = alu-register _ _ _ _ _ _ _ _ _ _ (c .before .before .before .before .before .before .before .before .before .pre .1 .0 .dst-named) (c .before .before .before .before .before .before .before .before .before .pre .1 .1) _ Long Mul _ (c .before .before .before .before .before .match .keys6) refl refl (c .before .before .mul642 .ensures) (c .put-register3 .ensures (c .before .before .before .before .before .before .before .before .before .args .stack .now))
+
+returns-7 : tie.Need-returns-7
+unfolding bits readsDst only lookup withOperand operations arithmetic comparisons jump loads storesOfImm storesOfSrc load storeOfImm storeOfSrc byClass
+returns-7 c = alu-immediate _ _ _ _ _ _ _ _ _ _ (c .before .before .before .before .before .before .before .before .pre .1 .0 .dst-named) (c .before .before .before .before .before .before .before .before .pre .1 .1) _ Long Div _ _ (c .before .before .before .before .match .keys7) refl refl (c .before .before .before .before .before .extend32 .ensures) (c .before .before .div64 .ensures) (c .put-immediate4 .ensures (c .before .before .before .before .before .before .before .before .args .stack .now))
+
+returns-8 : tie.Need-returns-8
+unfolding bits readsDst only lookup withOperand operations arithmetic comparisons jump loads storesOfImm storesOfSrc load storeOfImm storeOfSrc byClass
+returns-8 c = alu-register _ _ _ _ _ _ _ _ _ _ (c .before .before .before .before .before .before .before .before .before .pre .1 .0 .dst-named) (c .before .before .before .before .before .before .before .before .before .pre .1 .1) _ Long Div _ (c .before .before .before .before .before .match .keys8) refl refl (c .before .before .div642 .ensures) (c .put-register4 .ensures (c .before .before .before .before .before .before .before .before .before .args .stack .now))
+
+returns-9 : tie.Need-returns-9
+unfolding bits readsDst only lookup withOperand operations arithmetic comparisons jump loads storesOfImm storesOfSrc load storeOfImm storeOfSrc byClass
+returns-9 c = alu-immediate _ _ _ _ _ _ _ _ _ _ (c .before .before .before .before .before .before .before .before .pre .1 .0 .dst-named) (c .before .before .before .before .before .before .before .before .pre .1 .1) _ Long Or _ _ (c .before .before .before .before .match .keys9) refl refl (c .before .before .before .before .before .extend32 .ensures) (c .before .before .or64 .ensures) (c .put-immediate5 .ensures (c .before .before .before .before .before .before .before .before .args .stack .now))
+
+returns-10 : tie.Need-returns-10
+unfolding bits readsDst only lookup withOperand operations arithmetic comparisons jump loads storesOfImm storesOfSrc load storeOfImm storeOfSrc byClass
+returns-10 c = alu-register _ _ _ _ _ _ _ _ _ _ (c .before .before .before .before .before .before .before .before .before .pre .1 .0 .dst-named) (c .before .before .before .before .before .before .before .before .before .pre .1 .1) _ Long Or _ (c .before .before .before .before .before .match .keys10) refl refl (c .before .before .or642 .ensures) (c .put-register5 .ensures (c .before .before .before .before .before .before .before .before .before .args .stack .now))
+
+returns-11 : tie.Need-returns-11
+unfolding bits readsDst only lookup withOperand operations arithmetic comparisons jump loads storesOfImm storesOfSrc load storeOfImm storeOfSrc byClass
+returns-11 c = alu-immediate _ _ _ _ _ _ _ _ _ _ (c .before .before .before .before .before .before .before .before .pre .1 .0 .dst-named) (c .before .before .before .before .before .before .before .before .pre .1 .1) _ Long And _ _ (c .before .before .before .before .match .keys11) refl refl (c .before .before .before .before .before .extend32 .ensures) (c .before .before .and64 .ensures) (c .put-immediate6 .ensures (c .before .before .before .before .before .before .before .before .args .stack .now))
+
+returns-12 : tie.Need-returns-12
+unfolding bits readsDst only lookup withOperand operations arithmetic comparisons jump loads storesOfImm storesOfSrc load storeOfImm storeOfSrc byClass
+returns-12 c = alu-register _ _ _ _ _ _ _ _ _ _ (c .before .before .before .before .before .before .before .before .before .pre .1 .0 .dst-named) (c .before .before .before .before .before .before .before .before .before .pre .1 .1) _ Long And _ (c .before .before .before .before .before .match .keys12) refl refl (c .before .before .and642 .ensures) (c .put-register6 .ensures (c .before .before .before .before .before .before .before .before .before .args .stack .now))
+
+returns-13 : tie.Need-returns-13
+unfolding bits readsDst only lookup withOperand operations arithmetic comparisons jump loads storesOfImm storesOfSrc load storeOfImm storeOfSrc byClass
+returns-13 c = alu-immediate _ _ _ _ _ _ _ _ _ _ (c .before .before .before .before .before .before .before .before .pre .1 .0 .dst-named) (c .before .before .before .before .before .before .before .before .pre .1 .1) _ Long Lsh _ _ (c .before .before .before .before .match .keys13) refl refl (c .before .before .before .before .before .extend32 .ensures) (c .before .before .lsh64 .ensures) (c .put-immediate7 .ensures (c .before .before .before .before .before .before .before .before .args .stack .now))
+
+returns-14 : tie.Need-returns-14
+unfolding bits readsDst only lookup withOperand operations arithmetic comparisons jump loads storesOfImm storesOfSrc load storeOfImm storeOfSrc byClass
+returns-14 c = alu-register _ _ _ _ _ _ _ _ _ _ (c .before .before .before .before .before .before .before .before .before .pre .1 .0 .dst-named) (c .before .before .before .before .before .before .before .before .before .pre .1 .1) _ Long Lsh _ (c .before .before .before .before .before .match .keys14) refl refl (c .before .before .lsh642 .ensures) (c .put-register7 .ensures (c .before .before .before .before .before .before .before .before .before .args .stack .now))
+
+returns-15 : tie.Need-returns-15
+unfolding bits readsDst only lookup withOperand operations arithmetic comparisons jump loads storesOfImm storesOfSrc load storeOfImm storeOfSrc byClass
+returns-15 c = alu-immediate _ _ _ _ _ _ _ _ _ _ (c .before .before .before .before .before .before .before .before .pre .1 .0 .dst-named) (c .before .before .before .before .before .before .before .before .pre .1 .1) _ Long Rsh _ _ (c .before .before .before .before .match .keys15) refl refl (c .before .before .before .before .before .extend32 .ensures) (c .before .before .rsh64 .ensures) (c .put-immediate8 .ensures (c .before .before .before .before .before .before .before .before .args .stack .now))
+
+returns-16 : tie.Need-returns-16
+unfolding bits readsDst only lookup withOperand operations arithmetic comparisons jump loads storesOfImm storesOfSrc load storeOfImm storeOfSrc byClass
+returns-16 c = alu-register _ _ _ _ _ _ _ _ _ _ (c .before .before .before .before .before .before .before .before .before .pre .1 .0 .dst-named) (c .before .before .before .before .before .before .before .before .before .pre .1 .1) _ Long Rsh _ (c .before .before .before .before .before .match .keys16) refl refl (c .before .before .rsh642 .ensures) (c .put-register8 .ensures (c .before .before .before .before .before .before .before .before .before .args .stack .now))
+
+returns-17 : tie.Need-returns-17
+unfolding bits readsDst only lookup withOperand operations arithmetic comparisons jump loads storesOfImm storesOfSrc load storeOfImm storeOfSrc byClass
+returns-17 c = negation _ _ _ _ _ _ _ _ _ _ (c .before .before .before .before .before .before .before .before .pre .1 .0 .dst-named) (c .before .before .before .before .before .before .before .before .pre .1 .1) _ Long _ (c .before .before .before .before .match .keys17) refl (c .before .before .neg64 .ensures) (c .negate .ensures (c .before .before .before .before .before .before .before .before .args .stack .now))
+
+returns-18 : tie.Need-returns-18
+unfolding bits readsDst only lookup withOperand operations arithmetic comparisons jump loads storesOfImm storesOfSrc load storeOfImm storeOfSrc byClass
+returns-18 c = alu-immediate _ _ _ _ _ _ _ _ _ _ (c .before .before .before .before .before .before .before .before .pre .1 .0 .dst-named) (c .before .before .before .before .before .before .before .before .pre .1 .1) _ Long Mod _ _ (c .before .before .before .before .match .keys18) refl refl (c .before .before .before .before .before .extend32 .ensures) (c .before .before .mod64 .ensures) (c .put-immediate9 .ensures (c .before .before .before .before .before .before .before .before .args .stack .now))
+
+returns-19 : tie.Need-returns-19
+unfolding bits readsDst only lookup withOperand operations arithmetic comparisons jump loads storesOfImm storesOfSrc load storeOfImm storeOfSrc byClass
+returns-19 c = alu-register _ _ _ _ _ _ _ _ _ _ (c .before .before .before .before .before .before .before .before .before .pre .1 .0 .dst-named) (c .before .before .before .before .before .before .before .before .before .pre .1 .1) _ Long Mod _ (c .before .before .before .before .before .match .keys19) refl refl (c .before .before .mod642 .ensures) (c .put-register9 .ensures (c .before .before .before .before .before .before .before .before .before .args .stack .now))
+
+returns-20 : tie.Need-returns-20
+unfolding bits readsDst only lookup withOperand operations arithmetic comparisons jump loads storesOfImm storesOfSrc load storeOfImm storeOfSrc byClass
+returns-20 c = alu-immediate _ _ _ _ _ _ _ _ _ _ (c .before .before .before .before .before .before .before .before .pre .1 .0 .dst-named) (c .before .before .before .before .before .before .before .before .pre .1 .1) _ Long Xor _ _ (c .before .before .before .before .match .keys20) refl refl (c .before .before .before .before .before .extend32 .ensures) (c .before .before .xor64 .ensures) (c .put-immediate10 .ensures (c .before .before .before .before .before .before .before .before .args .stack .now))
+
+returns-21 : tie.Need-returns-21
+unfolding bits readsDst only lookup withOperand operations arithmetic comparisons jump loads storesOfImm storesOfSrc load storeOfImm storeOfSrc byClass
+returns-21 c = alu-register _ _ _ _ _ _ _ _ _ _ (c .before .before .before .before .before .before .before .before .before .pre .1 .0 .dst-named) (c .before .before .before .before .before .before .before .before .before .pre .1 .1) _ Long Xor _ (c .before .before .before .before .before .match .keys21) refl refl (c .before .before .xor642 .ensures) (c .put-register10 .ensures (c .before .before .before .before .before .before .before .before .before .args .stack .now))
+
+returns-22 : tie.Need-returns-22
+unfolding bits readsDst only lookup withOperand operations arithmetic comparisons jump loads storesOfImm storesOfSrc load storeOfImm storeOfSrc byClass
+returns-22 c = move-immediate _ _ _ _ _ _ _ _ _ _ (c .before .before .before .before .before .before .before .pre .1 .0 .dst-named) (c .before .before .before .before .before .before .before .pre .1 .1) _ Long _ _ (c .before .before .before .match .keys22) refl (c .before .before .before .before .extend32 .ensures) (c .before .before .mov64 .ensures) (c .move-immediate .ensures (c .before .before .before .before .before .before .before .args .stack .now))
+
+returns-23 : tie.Need-returns-23
+unfolding bits readsDst only lookup withOperand operations arithmetic comparisons jump loads storesOfImm storesOfSrc load storeOfImm storeOfSrc byClass
+returns-23 c = move-register _ _ _ _ _ _ _ _ _ _ (c .before .before .before .before .before .before .before .before .pre .1 .0 .dst-named) (c .before .before .before .before .before .before .before .before .pre .1 .1) _ Long _ (c .before .before .before .before .match .keys23) refl (c .before .before .mov642 .ensures) (c .move-register .ensures (c .before .before .before .before .before .before .before .before .args .stack .now))
+
+returns-24 : tie.Need-returns-24
+unfolding bits readsDst only lookup withOperand operations arithmetic comparisons jump loads storesOfImm storesOfSrc load storeOfImm storeOfSrc byClass
+returns-24 c = alu-immediate _ _ _ _ _ _ _ _ _ _ (c .before .before .before .before .before .before .before .before .pre .1 .0 .dst-named) (c .before .before .before .before .before .before .before .before .pre .1 .1) _ Long Arsh _ _ (c .before .before .before .before .match .keys24) refl refl (c .before .before .before .before .before .extend32 .ensures) (c .before .before .arsh64 .ensures) (c .put-immediate11 .ensures (c .before .before .before .before .before .before .before .before .args .stack .now))
+
+returns-25 : tie.Need-returns-25
+unfolding bits readsDst only lookup withOperand operations arithmetic comparisons jump loads storesOfImm storesOfSrc load storeOfImm storeOfSrc byClass
+returns-25 c = alu-register _ _ _ _ _ _ _ _ _ _ (c .before .before .before .before .before .before .before .before .before .pre .1 .0 .dst-named) (c .before .before .before .before .before .before .before .before .before .pre .1 .1) _ Long Arsh _ (c .before .before .before .before .before .match .keys25) refl refl (c .before .before .arsh642 .ensures) (c .put-register11 .ensures (c .before .before .before .before .before .before .before .before .before .args .stack .now))
+
+returns-26 : tie.Need-returns-26
+unfolding bits readsDst only lookup withOperand operations arithmetic comparisons jump loads storesOfImm storesOfSrc load storeOfImm storeOfSrc byClass
+returns-26 c = alu-immediate _ _ _ _ _ _ _ _ _ _ (c .before .before .before .before .before .before .before .before .pre .1 .0 .dst-named) (c .before .before .before .before .before .before .before .before .pre .1 .1) _ Short Add _ _ (c .before .before .before .before .match .keys26) refl refl (c .before .before .before .before .before .extend32 .ensures) (c .before .before .add32 .ensures) (c .put-immediate12 .ensures (c .before .before .before .before .before .before .before .before .args .stack .now))
+
+returns-27 : tie.Need-returns-27
+unfolding bits readsDst only lookup withOperand operations arithmetic comparisons jump loads storesOfImm storesOfSrc load storeOfImm storeOfSrc byClass
+returns-27 c = alu-register _ _ _ _ _ _ _ _ _ _ (c .before .before .before .before .before .before .before .before .before .pre .1 .0 .dst-named) (c .before .before .before .before .before .before .before .before .before .pre .1 .1) _ Short Add _ (c .before .before .before .before .before .match .keys27) refl refl (c .before .before .add322 .ensures) (c .put-register12 .ensures (c .before .before .before .before .before .before .before .before .before .args .stack .now))
+
+returns-28 : tie.Need-returns-28
+unfolding bits readsDst only lookup withOperand operations arithmetic comparisons jump loads storesOfImm storesOfSrc load storeOfImm storeOfSrc byClass
+returns-28 c = alu-immediate _ _ _ _ _ _ _ _ _ _ (c .before .before .before .before .before .before .before .before .pre .1 .0 .dst-named) (c .before .before .before .before .before .before .before .before .pre .1 .1) _ Short Sub _ _ (c .before .before .before .before .match .keys28) refl refl (c .before .before .before .before .before .extend32 .ensures) (c .before .before .sub32 .ensures) (c .put-immediate13 .ensures (c .before .before .before .before .before .before .before .before .args .stack .now))
+
+returns-29 : tie.Need-returns-29
+unfolding bits readsDst only lookup withOperand operations arithmetic comparisons jump loads storesOfImm storesOfSrc load storeOfImm storeOfSrc byClass
+returns-29 c = alu-register _ _ _ _ _ _ _ _ _ _ (c .before .before .before .before .before .before .before .before .before .pre .1 .0 .dst-named) (c .before .before .before .before .before .before .before .before .before .pre .1 .1) _ Short Sub _ (c .before .before .before .before .before .match .keys29) refl refl (c .before .before .sub322 .ensures) (c .put-register13 .ensures (c .before .before .before .before .before .before .before .before .before .args .stack .now))
+
+returns-30 : tie.Need-returns-30
+unfolding bits readsDst only lookup withOperand operations arithmetic comparisons jump loads storesOfImm storesOfSrc load storeOfImm storeOfSrc byClass
+returns-30 c = alu-immediate _ _ _ _ _ _ _ _ _ _ (c .before .before .before .before .before .before .before .before .pre .1 .0 .dst-named) (c .before .before .before .before .before .before .before .before .pre .1 .1) _ Short Mul _ _ (c .before .before .before .before .match .keys30) refl refl (c .before .before .before .before .before .extend32 .ensures) (c .before .before .mul32 .ensures) (c .put-immediate14 .ensures (c .before .before .before .before .before .before .before .before .args .stack .now))
+
+returns-31 : tie.Need-returns-31
+unfolding bits readsDst only lookup withOperand operations arithmetic comparisons jump loads storesOfImm storesOfSrc load storeOfImm storeOfSrc byClass
+returns-31 c = alu-register _ _ _ _ _ _ _ _ _ _ (c .before .before .before .before .before .before .before .before .before .pre .1 .0 .dst-named) (c .before .before .before .before .before .before .before .before .before .pre .1 .1) _ Short Mul _ (c .before .before .before .before .before .match .keys31) refl refl (c .before .before .mul322 .ensures) (c .put-register14 .ensures (c .before .before .before .before .before .before .before .before .before .args .stack .now))
+
+returns-32 : tie.Need-returns-32
+unfolding bits readsDst only lookup withOperand operations arithmetic comparisons jump loads storesOfImm storesOfSrc load storeOfImm storeOfSrc byClass
+returns-32 c = alu-immediate _ _ _ _ _ _ _ _ _ _ (c .before .before .before .before .before .before .before .before .pre .1 .0 .dst-named) (c .before .before .before .before .before .before .before .before .pre .1 .1) _ Short Div _ _ (c .before .before .before .before .match .keys32) refl refl (c .before .before .before .before .before .extend32 .ensures) (c .before .before .div32 .ensures) (c .put-immediate15 .ensures (c .before .before .before .before .before .before .before .before .args .stack .now))
+
+returns-33 : tie.Need-returns-33
+unfolding bits readsDst only lookup withOperand operations arithmetic comparisons jump loads storesOfImm storesOfSrc load storeOfImm storeOfSrc byClass
+returns-33 c = alu-register _ _ _ _ _ _ _ _ _ _ (c .before .before .before .before .before .before .before .before .before .pre .1 .0 .dst-named) (c .before .before .before .before .before .before .before .before .before .pre .1 .1) _ Short Div _ (c .before .before .before .before .before .match .keys33) refl refl (c .before .before .div322 .ensures) (c .put-register15 .ensures (c .before .before .before .before .before .before .before .before .before .args .stack .now))
+
+returns-34 : tie.Need-returns-34
+unfolding bits readsDst only lookup withOperand operations arithmetic comparisons jump loads storesOfImm storesOfSrc load storeOfImm storeOfSrc byClass
+returns-34 c = alu-immediate _ _ _ _ _ _ _ _ _ _ (c .before .before .before .before .before .before .before .before .pre .1 .0 .dst-named) (c .before .before .before .before .before .before .before .before .pre .1 .1) _ Short Or _ _ (c .before .before .before .before .match .keys34) refl refl (c .before .before .before .before .before .extend32 .ensures) (c .before .before .or32 .ensures) (c .put-immediate16 .ensures (c .before .before .before .before .before .before .before .before .args .stack .now))
+
+returns-35 : tie.Need-returns-35
+unfolding bits readsDst only lookup withOperand operations arithmetic comparisons jump loads storesOfImm storesOfSrc load storeOfImm storeOfSrc byClass
+returns-35 c = alu-register _ _ _ _ _ _ _ _ _ _ (c .before .before .before .before .before .before .before .before .before .pre .1 .0 .dst-named) (c .before .before .before .before .before .before .before .before .before .pre .1 .1) _ Short Or _ (c .before .before .before .before .before .match .keys35) refl refl (c .before .before .or322 .ensures) (c .put-register16 .ensures (c .before .before .before .before .before .before .before .before .before .args .stack .now))
+
+returns-36 : tie.Need-returns-36
+unfolding bits readsDst only lookup withOperand operations arithmetic comparisons jump loads storesOfImm storesOfSrc load storeOfImm storeOfSrc byClass
+returns-36 c = alu-immediate _ _ _ _ _ _ _ _ _ _ (c .before .before .before .before .before .before .before .before .pre .1 .0 .dst-named) (c .before .before .before .before .before .before .before .before .pre .1 .1) _ Short And _ _ (c .before .before .before .before .match .keys36) refl refl (c .before .before .before .before .before .extend32 .ensures) (c .before .before .and32 .ensures) (c .put-immediate17 .ensures (c .before .before .before .before .before .before .before .before .args .stack .now))
+
+returns-37 : tie.Need-returns-37
+unfolding bits readsDst only lookup withOperand operations arithmetic comparisons jump loads storesOfImm storesOfSrc load storeOfImm storeOfSrc byClass
+returns-37 c = alu-register _ _ _ _ _ _ _ _ _ _ (c .before .before .before .before .before .before .before .before .before .pre .1 .0 .dst-named) (c .before .before .before .before .before .before .before .before .before .pre .1 .1) _ Short And _ (c .before .before .before .before .before .match .keys37) refl refl (c .before .before .and322 .ensures) (c .put-register17 .ensures (c .before .before .before .before .before .before .before .before .before .args .stack .now))
+
+returns-38 : tie.Need-returns-38
+unfolding bits readsDst only lookup withOperand operations arithmetic comparisons jump loads storesOfImm storesOfSrc load storeOfImm storeOfSrc byClass
+returns-38 c = alu-immediate _ _ _ _ _ _ _ _ _ _ (c .before .before .before .before .before .before .before .before .pre .1 .0 .dst-named) (c .before .before .before .before .before .before .before .before .pre .1 .1) _ Short Lsh _ _ (c .before .before .before .before .match .keys38) refl refl (c .before .before .before .before .before .extend32 .ensures) (c .before .before .lsh32 .ensures) (c .put-immediate18 .ensures (c .before .before .before .before .before .before .before .before .args .stack .now))
+
+returns-39 : tie.Need-returns-39
+unfolding bits readsDst only lookup withOperand operations arithmetic comparisons jump loads storesOfImm storesOfSrc load storeOfImm storeOfSrc byClass
+returns-39 c = alu-register _ _ _ _ _ _ _ _ _ _ (c .before .before .before .before .before .before .before .before .before .pre .1 .0 .dst-named) (c .before .before .before .before .before .before .before .before .before .pre .1 .1) _ Short Lsh _ (c .before .before .before .before .before .match .keys39) refl refl (c .before .before .lsh322 .ensures) (c .put-register18 .ensures (c .before .before .before .before .before .before .before .before .before .args .stack .now))
+
+returns-40 : tie.Need-returns-40
+unfolding bits readsDst only lookup withOperand operations arithmetic comparisons jump loads storesOfImm storesOfSrc load storeOfImm storeOfSrc byClass
+returns-40 c = alu-immediate _ _ _ _ _ _ _ _ _ _ (c .before .before .before .before .before .before .before .before .pre .1 .0 .dst-named) (c .before .before .before .before .before .before .before .before .pre .1 .1) _ Short Rsh _ _ (c .before .before .before .before .match .keys40) refl refl (c .before .before .before .before .before .extend32 .ensures) (c .before .before .rsh32 .ensures) (c .put-immediate19 .ensures (c .before .before .before .before .before .before .before .before .args .stack .now))
+
+returns-41 : tie.Need-returns-41
+unfolding bits readsDst only lookup withOperand operations arithmetic comparisons jump loads storesOfImm storesOfSrc load storeOfImm storeOfSrc byClass
+returns-41 c = alu-register _ _ _ _ _ _ _ _ _ _ (c .before .before .before .before .before .before .before .before .before .pre .1 .0 .dst-named) (c .before .before .before .before .before .before .before .before .before .pre .1 .1) _ Short Rsh _ (c .before .before .before .before .before .match .keys41) refl refl (c .before .before .rsh322 .ensures) (c .put-register19 .ensures (c .before .before .before .before .before .before .before .before .before .args .stack .now))
+
+returns-42 : tie.Need-returns-42
+unfolding bits readsDst only lookup withOperand operations arithmetic comparisons jump loads storesOfImm storesOfSrc load storeOfImm storeOfSrc byClass
+returns-42 c = negation _ _ _ _ _ _ _ _ _ _ (c .before .before .before .before .before .before .before .before .pre .1 .0 .dst-named) (c .before .before .before .before .before .before .before .before .pre .1 .1) _ Short _ (c .before .before .before .before .match .keys42) refl (c .before .before .neg32 .ensures) (c .negate2 .ensures (c .before .before .before .before .before .before .before .before .args .stack .now))
+
+returns-43 : tie.Need-returns-43
+unfolding bits readsDst only lookup withOperand operations arithmetic comparisons jump loads storesOfImm storesOfSrc load storeOfImm storeOfSrc byClass
+returns-43 c = alu-immediate _ _ _ _ _ _ _ _ _ _ (c .before .before .before .before .before .before .before .before .pre .1 .0 .dst-named) (c .before .before .before .before .before .before .before .before .pre .1 .1) _ Short Mod _ _ (c .before .before .before .before .match .keys43) refl refl (c .before .before .before .before .before .extend32 .ensures) (c .before .before .mod32 .ensures) (c .put-immediate20 .ensures (c .before .before .before .before .before .before .before .before .args .stack .now))
+
+returns-44 : tie.Need-returns-44
+unfolding bits readsDst only lookup withOperand operations arithmetic comparisons jump loads storesOfImm storesOfSrc load storeOfImm storeOfSrc byClass
+returns-44 c = alu-register _ _ _ _ _ _ _ _ _ _ (c .before .before .before .before .before .before .before .before .before .pre .1 .0 .dst-named) (c .before .before .before .before .before .before .before .before .before .pre .1 .1) _ Short Mod _ (c .before .before .before .before .before .match .keys44) refl refl (c .before .before .mod322 .ensures) (c .put-register20 .ensures (c .before .before .before .before .before .before .before .before .before .args .stack .now))
+
+returns-45 : tie.Need-returns-45
+unfolding bits readsDst only lookup withOperand operations arithmetic comparisons jump loads storesOfImm storesOfSrc load storeOfImm storeOfSrc byClass
+returns-45 c = alu-immediate _ _ _ _ _ _ _ _ _ _ (c .before .before .before .before .before .before .before .before .pre .1 .0 .dst-named) (c .before .before .before .before .before .before .before .before .pre .1 .1) _ Short Xor _ _ (c .before .before .before .before .match .keys45) refl refl (c .before .before .before .before .before .extend32 .ensures) (c .before .before .xor32 .ensures) (c .put-immediate21 .ensures (c .before .before .before .before .before .before .before .before .args .stack .now))
+
+returns-46 : tie.Need-returns-46
+unfolding bits readsDst only lookup withOperand operations arithmetic comparisons jump loads storesOfImm storesOfSrc load storeOfImm storeOfSrc byClass
+returns-46 c = alu-register _ _ _ _ _ _ _ _ _ _ (c .before .before .before .before .before .before .before .before .before .pre .1 .0 .dst-named) (c .before .before .before .before .before .before .before .before .before .pre .1 .1) _ Short Xor _ (c .before .before .before .before .before .match .keys46) refl refl (c .before .before .xor322 .ensures) (c .put-register21 .ensures (c .before .before .before .before .before .before .before .before .before .args .stack .now))
+
+returns-47 : tie.Need-returns-47
+unfolding bits readsDst only lookup withOperand operations arithmetic comparisons jump loads storesOfImm storesOfSrc load storeOfImm storeOfSrc byClass
+returns-47 c = move-immediate _ _ _ _ _ _ _ _ _ _ (c .before .before .before .before .before .before .before .pre .1 .0 .dst-named) (c .before .before .before .before .before .before .before .pre .1 .1) _ Short _ _ (c .before .before .before .match .keys47) refl (c .before .before .before .before .extend32 .ensures) (c .before .before .mov32 .ensures) (c .move-immediate2 .ensures (c .before .before .before .before .before .before .before .args .stack .now))
+
+returns-48 : tie.Need-returns-48
+unfolding bits readsDst only lookup withOperand operations arithmetic comparisons jump loads storesOfImm storesOfSrc load storeOfImm storeOfSrc byClass
+returns-48 c = move-register _ _ _ _ _ _ _ _ _ _ (c .before .before .before .before .before .before .before .before .pre .1 .0 .dst-named) (c .before .before .before .before .before .before .before .before .pre .1 .1) _ Short _ (c .before .before .before .before .match .keys48) refl (c .before .before .mov322 .ensures) (c .move-register2 .ensures (c .before .before .before .before .before .before .before .before .args .stack .now))
+
+returns-49 : tie.Need-returns-49
+unfolding bits readsDst only lookup withOperand operations arithmetic comparisons jump loads storesOfImm storesOfSrc load storeOfImm storeOfSrc byClass
+returns-49 c = alu-immediate _ _ _ _ _ _ _ _ _ _ (c .before .before .before .before .before .before .before .before .pre .1 .0 .dst-named) (c .before .before .before .before .before .before .before .before .pre .1 .1) _ Short Arsh _ _ (c .before .before .before .before .match .keys49) refl refl (c .before .before .before .before .before .extend32 .ensures) (c .before .before .arsh32 .ensures) (c .put-immediate22 .ensures (c .before .before .before .before .before .before .before .before .args .stack .now))
+
+returns-50 : tie.Need-returns-50
+unfolding bits readsDst only lookup withOperand operations arithmetic comparisons jump loads storesOfImm storesOfSrc load storeOfImm storeOfSrc byClass
+returns-50 c = alu-register _ _ _ _ _ _ _ _ _ _ (c .before .before .before .before .before .before .before .before .before .pre .1 .0 .dst-named) (c .before .before .before .before .before .before .before .before .before .pre .1 .1) _ Short Arsh _ (c .before .before .before .before .before .match .keys50) refl refl (c .before .before .arsh322 .ensures) (c .put-register22 .ensures (c .before .before .before .before .before .before .before .before .before .args .stack .now))
+
+returns-51 : tie.Need-returns-51
+unfolding bits readsDst only lookup withOperand operations arithmetic comparisons jump loads storesOfImm storesOfSrc load storeOfImm storeOfSrc byClass
+returns-51 c = always _ _ _ _ _ _ _ _ _ _ (c .before .before .before .before .before .pre .1 .0 .dst-named) (c .before .before .before .before .before .pre .1 .1) _ (c .before .match .keys51) refl (c .jump-always .ensures (c .before .before .before .before .before .args .regs .now) (c .before .before .before .before .before .args .stack .now) (c .before .before .before .before .before .pre .0))
+
+returns-52 : tie.Need-returns-52
+unfolding bits readsDst only lookup withOperand operations arithmetic comparisons jump loads storesOfImm storesOfSrc load storeOfImm storeOfSrc byClass
+returns-52 c = ending _ _ _ _ _ _ _ _ _ _ (c .before .before .before .before .before .before .pre .1 .0 .dst-named) (c .before .before .before .before .before .before .pre .1 .1) _ (c .before .before .match .keys52) refl (c .exit .ensures (c .before .before .before .before .before .before .args .regs .now) (c .before .before .before .before .before .before .args .stack .now) _ (c .before .before .before .before .before .before .pre .0))
+
+returns-53 : tie.Need-returns-53
+unfolding bits readsDst only lookup withOperand operations arithmetic comparisons jump loads storesOfImm storesOfSrc load storeOfImm storeOfSrc byClass
+returns-53 c = jump-immediate _ _ _ _ _ _ _ _ _ _ (c .before .before .before .before .before .before .before .pre .1 .0 .dst-named) (c .before .before .before .before .before .before .before .pre .1 .1) _ Eq _ _ (c .before .before .before .match .keys53) refl (c .before .before .before .before .extend32 .ensures) (c .before .eq64 .ensures) (c .jump-immediate .ensures (c .before .before .before .before .before .before .before .args .regs .now) (c .before .before .before .before .before .before .before .args .stack .now) (c .before .before .before .before .before .before .before .pre .0))
+
+returns-54 : tie.Need-returns-54
+unfolding bits readsDst only lookup withOperand operations arithmetic comparisons jump loads storesOfImm storesOfSrc load storeOfImm storeOfSrc byClass
+returns-54 c = jump-register _ _ _ _ _ _ _ _ _ _ (c .before .before .before .before .before .before .before .before .pre .1 .0 .dst-named) (c .before .before .before .before .before .before .before .before .pre .1 .1) _ Eq _ (c .before .before .before .before .match .keys54) refl (c .before .eq642 .ensures) (c .jump-register .ensures (c .before .before .before .before .before .before .before .before .args .regs .now) (c .before .before .before .before .before .before .before .before .args .stack .now) (c .before .before .before .before .before .before .before .before .pre .0))
+
+returns-55 : tie.Need-returns-55
+unfolding bits readsDst only lookup withOperand operations arithmetic comparisons jump loads storesOfImm storesOfSrc load storeOfImm storeOfSrc byClass
+returns-55 c = jump-immediate _ _ _ _ _ _ _ _ _ _ (c .before .before .before .before .before .before .before .pre .1 .0 .dst-named) (c .before .before .before .before .before .before .before .pre .1 .1) _ Gt _ _ (c .before .before .before .match .keys55) refl (c .before .before .before .before .extend32 .ensures) (c .before .gt64 .ensures) (c .jump-immediate2 .ensures (c .before .before .before .before .before .before .before .args .regs .now) (c .before .before .before .before .before .before .before .args .stack .now) (c .before .before .before .before .before .before .before .pre .0))
+
+returns-56 : tie.Need-returns-56
+unfolding bits readsDst only lookup withOperand operations arithmetic comparisons jump loads storesOfImm storesOfSrc load storeOfImm storeOfSrc byClass
+returns-56 c = jump-register _ _ _ _ _ _ _ _ _ _ (c .before .before .before .before .before .before .before .before .pre .1 .0 .dst-named) (c .before .before .before .before .before .before .before .before .pre .1 .1) _ Gt _ (c .before .before .before .before .match .keys56) refl (c .before .gt642 .ensures) (c .jump-register2 .ensures (c .before .before .before .before .before .before .before .before .args .regs .now) (c .before .before .before .before .before .before .before .before .args .stack .now) (c .before .before .before .before .before .before .before .before .pre .0))
+
+returns-57 : tie.Need-returns-57
+unfolding bits readsDst only lookup withOperand operations arithmetic comparisons jump loads storesOfImm storesOfSrc load storeOfImm storeOfSrc byClass
+returns-57 c = jump-immediate _ _ _ _ _ _ _ _ _ _ (c .before .before .before .before .before .before .before .pre .1 .0 .dst-named) (c .before .before .before .before .before .before .before .pre .1 .1) _ Ge _ _ (c .before .before .before .match .keys57) refl (c .before .before .before .before .extend32 .ensures) (c .before .ge64 .ensures) (c .jump-immediate3 .ensures (c .before .before .before .before .before .before .before .args .regs .now) (c .before .before .before .before .before .before .before .args .stack .now) (c .before .before .before .before .before .before .before .pre .0))
+
+returns-58 : tie.Need-returns-58
+unfolding bits readsDst only lookup withOperand operations arithmetic comparisons jump loads storesOfImm storesOfSrc load storeOfImm storeOfSrc byClass
+returns-58 c = jump-register _ _ _ _ _ _ _ _ _ _ (c .before .before .before .before .before .before .before .before .pre .1 .0 .dst-named) (c .before .before .before .before .before .before .before .before .pre .1 .1) _ Ge _ (c .before .before .before .before .match .keys58) refl (c .before .ge642 .ensures) (c .jump-register3 .ensures (c .before .before .before .before .before .before .before .before .args .regs .now) (c .before .before .before .before .before .before .before .before .args .stack .now) (c .before .before .before .before .before .before .before .before .pre .0))
+
+returns-59 : tie.Need-returns-59
+unfolding bits readsDst only lookup withOperand operations arithmetic comparisons jump loads storesOfImm storesOfSrc load storeOfImm storeOfSrc byClass
+returns-59 c = jump-immediate _ _ _ _ _ _ _ _ _ _ (c .before .before .before .before .before .before .before .pre .1 .0 .dst-named) (c .before .before .before .before .before .before .before .pre .1 .1) _ Set _ _ (c .before .before .before .match .keys59) refl (c .before .before .before .before .extend32 .ensures) (c .before .set64 .ensures) (c .jump-immediate4 .ensures (c .before .before .before .before .before .before .before .args .regs .now) (c .before .before .before .before .before .before .before .args .stack .now) (c .before .before .before .before .before .before .before .pre .0))
+
+returns-60 : tie.Need-returns-60
+unfolding bits readsDst only lookup withOperand operations arithmetic comparisons jump loads storesOfImm storesOfSrc load storeOfImm storeOfSrc byClass
+returns-60 c = jump-register _ _ _ _ _ _ _ _ _ _ (c .before .before .before .before .before .before .before .before .pre .1 .0 .dst-named) (c .before .before .before .before .before .before .before .before .pre .1 .1) _ Set _ (c .before .before .before .before .match .keys60) refl (c .before .set642 .ensures) (c .jump-register4 .ensures (c .before .before .before .before .before .before .before .before .args .regs .now) (c .before .before .before .before .before .before .before .before .args .stack .now) (c .before .before .before .before .before .before .before .before .pre .0))
+
+returns-61 : tie.Need-returns-61
+unfolding bits readsDst only lookup withOperand operations arithmetic comparisons jump loads storesOfImm storesOfSrc load storeOfImm storeOfSrc byClass
+returns-61 c = jump-immediate _ _ _ _ _ _ _ _ _ _ (c .before .before .before .before .before .before .before .pre .1 .0 .dst-named) (c .before .before .before .before .before .before .before .pre .1 .1) _ Ne _ _ (c .before .before .before .match .keys61) refl (c .before .before .before .before .extend32 .ensures) (c .before .ne64 .ensures) (c .jump-immediate5 .ensures (c .before .before .before .before .before .before .before .args .regs .now) (c .before .before .before .before .before .before .before .args .stack .now) (c .before .before .before .before .before .before .before .pre .0))
+
+returns-62 : tie.Need-returns-62
+unfolding bits readsDst only lookup withOperand operations arithmetic comparisons jump loads storesOfImm storesOfSrc load storeOfImm storeOfSrc byClass
+returns-62 c = jump-register _ _ _ _ _ _ _ _ _ _ (c .before .before .before .before .before .before .before .before .pre .1 .0 .dst-named) (c .before .before .before .before .before .before .before .before .pre .1 .1) _ Ne _ (c .before .before .before .before .match .keys62) refl (c .before .ne642 .ensures) (c .jump-register5 .ensures (c .before .before .before .before .before .before .before .before .args .regs .now) (c .before .before .before .before .before .before .before .before .args .stack .now) (c .before .before .before .before .before .before .before .before .pre .0))
+
+returns-63 : tie.Need-returns-63
+unfolding bits readsDst only lookup withOperand operations arithmetic comparisons jump loads storesOfImm storesOfSrc load storeOfImm storeOfSrc byClass
+returns-63 c = jump-immediate _ _ _ _ _ _ _ _ _ _ (c .before .before .before .before .before .before .before .pre .1 .0 .dst-named) (c .before .before .before .before .before .before .before .pre .1 .1) _ Sgt _ _ (c .before .before .before .match .keys63) refl (c .before .before .before .before .extend32 .ensures) (c .before .sgt64 .ensures) (c .jump-immediate6 .ensures (c .before .before .before .before .before .before .before .args .regs .now) (c .before .before .before .before .before .before .before .args .stack .now) (c .before .before .before .before .before .before .before .pre .0))
+
+returns-64 : tie.Need-returns-64
+unfolding bits readsDst only lookup withOperand operations arithmetic comparisons jump loads storesOfImm storesOfSrc load storeOfImm storeOfSrc byClass
+returns-64 c = jump-register _ _ _ _ _ _ _ _ _ _ (c .before .before .before .before .before .before .before .before .pre .1 .0 .dst-named) (c .before .before .before .before .before .before .before .before .pre .1 .1) _ Sgt _ (c .before .before .before .before .match .keys64) refl (c .before .sgt642 .ensures) (c .jump-register6 .ensures (c .before .before .before .before .before .before .before .before .args .regs .now) (c .before .before .before .before .before .before .before .before .args .stack .now) (c .before .before .before .before .before .before .before .before .pre .0))
+
+returns-65 : tie.Need-returns-65
+unfolding bits readsDst only lookup withOperand operations arithmetic comparisons jump loads storesOfImm storesOfSrc load storeOfImm storeOfSrc byClass
+returns-65 c = jump-immediate _ _ _ _ _ _ _ _ _ _ (c .before .before .before .before .before .before .before .pre .1 .0 .dst-named) (c .before .before .before .before .before .before .before .pre .1 .1) _ Sge _ _ (c .before .before .before .match .keys65) refl (c .before .before .before .before .extend32 .ensures) (c .before .sge64 .ensures) (c .jump-immediate7 .ensures (c .before .before .before .before .before .before .before .args .regs .now) (c .before .before .before .before .before .before .before .args .stack .now) (c .before .before .before .before .before .before .before .pre .0))
+
+returns-66 : tie.Need-returns-66
+unfolding bits readsDst only lookup withOperand operations arithmetic comparisons jump loads storesOfImm storesOfSrc load storeOfImm storeOfSrc byClass
+returns-66 c = jump-register _ _ _ _ _ _ _ _ _ _ (c .before .before .before .before .before .before .before .before .pre .1 .0 .dst-named) (c .before .before .before .before .before .before .before .before .pre .1 .1) _ Sge _ (c .before .before .before .before .match .keys66) refl (c .before .sge642 .ensures) (c .jump-register7 .ensures (c .before .before .before .before .before .before .before .before .args .regs .now) (c .before .before .before .before .before .before .before .before .args .stack .now) (c .before .before .before .before .before .before .before .before .pre .0))
+
+returns-67 : tie.Need-returns-67
+unfolding bits readsDst only lookup withOperand operations arithmetic comparisons jump loads storesOfImm storesOfSrc load storeOfImm storeOfSrc byClass
+returns-67 c = jump-immediate _ _ _ _ _ _ _ _ _ _ (c .before .before .before .before .before .before .before .pre .1 .0 .dst-named) (c .before .before .before .before .before .before .before .pre .1 .1) _ Lt _ _ (c .before .before .before .match .keys67) refl (c .before .before .before .before .extend32 .ensures) (c .before .lt64 .ensures) (c .jump-immediate8 .ensures (c .before .before .before .before .before .before .before .args .regs .now) (c .before .before .before .before .before .before .before .args .stack .now) (c .before .before .before .before .before .before .before .pre .0))
+
+returns-68 : tie.Need-returns-68
+unfolding bits readsDst only lookup withOperand operations arithmetic comparisons jump loads storesOfImm storesOfSrc load storeOfImm storeOfSrc byClass
+returns-68 c = jump-register _ _ _ _ _ _ _ _ _ _ (c .before .before .before .before .before .before .before .before .pre .1 .0 .dst-named) (c .before .before .before .before .before .before .before .before .pre .1 .1) _ Lt _ (c .before .before .before .before .match .keys68) refl (c .before .lt642 .ensures) (c .jump-register8 .ensures (c .before .before .before .before .before .before .before .before .args .regs .now) (c .before .before .before .before .before .before .before .before .args .stack .now) (c .before .before .before .before .before .before .before .before .pre .0))
+
+returns-69 : tie.Need-returns-69
+unfolding bits readsDst only lookup withOperand operations arithmetic comparisons jump loads storesOfImm storesOfSrc load storeOfImm storeOfSrc byClass
+returns-69 c = jump-immediate _ _ _ _ _ _ _ _ _ _ (c .before .before .before .before .before .before .before .pre .1 .0 .dst-named) (c .before .before .before .before .before .before .before .pre .1 .1) _ Le _ _ (c .before .before .before .match .keys69) refl (c .before .before .before .before .extend32 .ensures) (c .before .le64 .ensures) (c .jump-immediate9 .ensures (c .before .before .before .before .before .before .before .args .regs .now) (c .before .before .before .before .before .before .before .args .stack .now) (c .before .before .before .before .before .before .before .pre .0))
+
+returns-70 : tie.Need-returns-70
+unfolding bits readsDst only lookup withOperand operations arithmetic comparisons jump loads storesOfImm storesOfSrc load storeOfImm storeOfSrc byClass
+returns-70 c = jump-register _ _ _ _ _ _ _ _ _ _ (c .before .before .before .before .before .before .before .before .pre .1 .0 .dst-named) (c .before .before .before .before .before .before .before .before .pre .1 .1) _ Le _ (c .before .before .before .before .match .keys70) refl (c .before .le642 .ensures) (c .jump-register9 .ensures (c .before .before .before .before .before .before .before .before .args .regs .now) (c .before .before .before .before .before .before .before .before .args .stack .now) (c .before .before .before .before .before .before .before .before .pre .0))
+
+returns-71 : tie.Need-returns-71
+unfolding bits readsDst only lookup withOperand operations arithmetic comparisons jump loads storesOfImm storesOfSrc load storeOfImm storeOfSrc byClass
+returns-71 c = jump-immediate _ _ _ _ _ _ _ _ _ _ (c .before .before .before .before .before .before .before .pre .1 .0 .dst-named) (c .before .before .before .before .before .before .before .pre .1 .1) _ Slt _ _ (c .before .before .before .match .keys71) refl (c .before .before .before .before .extend32 .ensures) (c .before .slt64 .ensures) (c .jump-immediate10 .ensures (c .before .before .before .before .before .before .before .args .regs .now) (c .before .before .before .before .before .before .before .args .stack .now) (c .before .before .before .before .before .before .before .pre .0))
+
+returns-72 : tie.Need-returns-72
+unfolding bits readsDst only lookup withOperand operations arithmetic comparisons jump loads storesOfImm storesOfSrc load storeOfImm storeOfSrc byClass
+returns-72 c = jump-register _ _ _ _ _ _ _ _ _ _ (c .before .before .before .before .before .before .before .before .pre .1 .0 .dst-named) (c .before .before .before .before .before .before .before .before .pre .1 .1) _ Slt _ (c .before .before .before .before .match .keys72) refl (c .before .slt642 .ensures) (c .jump-register10 .ensures (c .before .before .before .before .before .before .before .before .args .regs .now) (c .before .before .before .before .before .before .before .before .args .stack .now) (c .before .before .before .before .before .before .before .before .pre .0))
+
+returns-73 : tie.Need-returns-73
+unfolding bits readsDst only lookup withOperand operations arithmetic comparisons jump loads storesOfImm storesOfSrc load storeOfImm storeOfSrc byClass
+returns-73 c = jump-immediate _ _ _ _ _ _ _ _ _ _ (c .before .before .before .before .before .before .before .pre .1 .0 .dst-named) (c .before .before .before .before .before .before .before .pre .1 .1) _ Sle _ _ (c .before .before .before .match .keys73) refl (c .before .before .before .before .extend32 .ensures) (c .before .sle64 .ensures) (c .jump-immediate11 .ensures (c .before .before .before .before .before .before .before .args .regs .now) (c .before .before .before .before .before .before .before .args .stack .now) (c .before .before .before .before .before .before .before .pre .0))
+
+returns-74 : tie.Need-returns-74
+unfolding bits readsDst only lookup withOperand operations arithmetic comparisons jump loads storesOfImm storesOfSrc load storeOfImm storeOfSrc byClass
+returns-74 c = jump-register _ _ _ _ _ _ _ _ _ _ (c .before .before .before .before .before .before .before .before .pre .1 .0 .dst-named) (c .before .before .before .before .before .before .before .before .pre .1 .1) _ Sle _ (c .before .before .before .before .match .keys74) refl (c .before .sle642 .ensures) (c .jump-register11 .ensures (c .before .before .before .before .before .before .before .before .args .regs .now) (c .before .before .before .before .before .before .before .before .args .stack .now) (c .before .before .before .before .before .before .before .before .pre .0))
+
+same-length : tie.Need-same-length
+same-length c = search needs
+
+returns-75 : tie.Need-returns-75
+unfolding bits readsDst only lookup withOperand operations arithmetic comparisons jump loads storesOfImm storesOfSrc load storeOfImm storeOfSrc byClass
+returns-75 c = loading _ _ _ _ _ _ _ _ _ _ (c .before .before .before .before .before .before .before .before .pre .1 .0 .dst-named) (c .before .before .before .before .before .before .before .before .pre .1 .1) _ One (c .before .before .before .before .match .keys75) refl (c .load-into .ensures)
+
+same-length-2 : tie.Need-same-length-2
+same-length-2 c = search needs
+
+returns-76 : tie.Need-returns-76
+unfolding bits readsDst only lookup withOperand operations arithmetic comparisons jump loads storesOfImm storesOfSrc load storeOfImm storeOfSrc byClass
+returns-76 c = loading _ _ _ _ _ _ _ _ _ _ (c .before .before .before .before .before .before .before .before .pre .1 .0 .dst-named) (c .before .before .before .before .before .before .before .before .pre .1 .1) _ Two (c .before .before .before .before .match .keys76) refl (c .load-into2 .ensures)
+
+same-length-3 : tie.Need-same-length-3
+same-length-3 c = search needs
+
+returns-77 : tie.Need-returns-77
+unfolding bits readsDst only lookup withOperand operations arithmetic comparisons jump loads storesOfImm storesOfSrc load storeOfImm storeOfSrc byClass
+returns-77 c = loading _ _ _ _ _ _ _ _ _ _ (c .before .before .before .before .before .before .before .before .pre .1 .0 .dst-named) (c .before .before .before .before .before .before .before .before .pre .1 .1) _ Four (c .before .before .before .before .match .keys77) refl (c .load-into3 .ensures)
+
+same-length-4 : tie.Need-same-length-4
+same-length-4 c = search needs
+
+returns-78 : tie.Need-returns-78
+unfolding bits readsDst only lookup withOperand operations arithmetic comparisons jump loads storesOfImm storesOfSrc load storeOfImm storeOfSrc byClass
+returns-78 c = loading _ _ _ _ _ _ _ _ _ _ (c .before .before .before .before .before .before .before .before .pre .1 .0 .dst-named) (c .before .before .before .before .before .before .before .before .pre .1 .1) _ Eight (c .before .before .before .before .match .keys78) refl (c .load-into4 .ensures)
+
+same-length-5 : tie.Need-same-length-5
+same-length-5 c = search needs
+
+returns-79 : tie.Need-returns-79
+unfolding bits readsDst only lookup withOperand operations arithmetic comparisons jump loads storesOfImm storesOfSrc load storeOfImm storeOfSrc byClass
+returns-79 c = storing-immediate _ _ _ _ _ _ _ _ _ _ (c .before .before .before .before .before .before .before .before .before .pre .1 .0 .dst-named) (c .before .before .before .before .before .before .before .before .before .pre .1 .1) _ One _ (c .before .before .before .before .before .match .keys79) refl (c .before .before .before .before .before .before .extend32 .ensures) (c .before .before .store-immediate .ensures (c .before .before .before .before .before .before .before .before .before .args .regs .now) _ _ (c .before .before .before .before .before .before .before .before .before .pre .0))
+
+same-length-6 : tie.Need-same-length-6
+same-length-6 c = search needs
+
+returns-80 : tie.Need-returns-80
+unfolding bits readsDst only lookup withOperand operations arithmetic comparisons jump loads storesOfImm storesOfSrc load storeOfImm storeOfSrc byClass
+returns-80 c = storing-immediate _ _ _ _ _ _ _ _ _ _ (c .before .before .before .before .before .before .before .before .before .pre .1 .0 .dst-named) (c .before .before .before .before .before .before .before .before .before .pre .1 .1) _ Two _ (c .before .before .before .before .before .match .keys80) refl (c .before .before .before .before .before .before .extend32 .ensures) (c .before .before .store-immediate2 .ensures (c .before .before .before .before .before .before .before .before .before .args .regs .now) _ _ (c .before .before .before .before .before .before .before .before .before .pre .0))
+
+same-length-7 : tie.Need-same-length-7
+same-length-7 c = search needs
+
+returns-81 : tie.Need-returns-81
+unfolding bits readsDst only lookup withOperand operations arithmetic comparisons jump loads storesOfImm storesOfSrc load storeOfImm storeOfSrc byClass
+returns-81 c = storing-immediate _ _ _ _ _ _ _ _ _ _ (c .before .before .before .before .before .before .before .before .before .pre .1 .0 .dst-named) (c .before .before .before .before .before .before .before .before .before .pre .1 .1) _ Four _ (c .before .before .before .before .before .match .keys81) refl (c .before .before .before .before .before .before .extend32 .ensures) (c .before .before .store-immediate3 .ensures (c .before .before .before .before .before .before .before .before .before .args .regs .now) _ _ (c .before .before .before .before .before .before .before .before .before .pre .0))
+
+same-length-8 : tie.Need-same-length-8
+same-length-8 c = search needs
+
+returns-82 : tie.Need-returns-82
+unfolding bits readsDst only lookup withOperand operations arithmetic comparisons jump loads storesOfImm storesOfSrc load storeOfImm storeOfSrc byClass
+returns-82 c = storing-immediate _ _ _ _ _ _ _ _ _ _ (c .before .before .before .before .before .before .before .before .before .pre .1 .0 .dst-named) (c .before .before .before .before .before .before .before .before .before .pre .1 .1) _ Eight _ (c .before .before .before .before .before .match .keys82) refl (c .before .before .before .before .before .before .extend32 .ensures) (c .before .before .store-immediate4 .ensures (c .before .before .before .before .before .before .before .before .before .args .regs .now) _ _ (c .before .before .before .before .before .before .before .before .before .pre .0))
+
+same-length-9 : tie.Need-same-length-9
+same-length-9 c = search needs
+
+returns-83 : tie.Need-returns-83
+unfolding bits readsDst only lookup withOperand operations arithmetic comparisons jump loads storesOfImm storesOfSrc load storeOfImm storeOfSrc byClass
+returns-83 c = storing-register _ _ _ _ _ _ _ _ _ _ (c .before .before .before .before .before .before .before .before .before .before .pre .1 .0 .dst-named) (c .before .before .before .before .before .before .before .before .before .before .pre .1 .1) _ One (c .before .before .before .before .before .before .match .keys83) refl (c .before .before .store-register .ensures (c .before .before .before .before .before .before .before .before .before .before .args .regs .now) _ _ (c .before .before .before .before .before .before .before .before .before .before .pre .0))
+
+same-length-10 : tie.Need-same-length-10
+same-length-10 c = search needs
+
+returns-84 : tie.Need-returns-84
+unfolding bits readsDst only lookup withOperand operations arithmetic comparisons jump loads storesOfImm storesOfSrc load storeOfImm storeOfSrc byClass
+returns-84 c = storing-register _ _ _ _ _ _ _ _ _ _ (c .before .before .before .before .before .before .before .before .before .before .pre .1 .0 .dst-named) (c .before .before .before .before .before .before .before .before .before .before .pre .1 .1) _ Two (c .before .before .before .before .before .before .match .keys84) refl (c .before .before .store-register2 .ensures (c .before .before .before .before .before .before .before .before .before .before .args .regs .now) _ _ (c .before .before .before .before .before .before .before .before .before .before .pre .0))
+
+same-length-11 : tie.Need-same-length-11
+same-length-11 c = search needs
+
+returns-85 : tie.Need-returns-85
+unfolding bits readsDst only lookup withOperand operations arithmetic comparisons jump loads storesOfImm storesOfSrc load storeOfImm storeOfSrc byClass
+returns-85 c = storing-register _ _ _ _ _ _ _ _ _ _ (c .before .before .before .before .before .before .before .before .before .before .pre .1 .0 .dst-named) (c .before .before .before .before .before .before .before .before .before .before .pre .1 .1) _ Four (c .before .before .before .before .before .before .match .keys85) refl (c .before .before .store-register3 .ensures (c .before .before .before .before .before .before .before .before .before .before .args .regs .now) _ _ (c .before .before .before .before .before .before .before .before .before .before .pre .0))
+
+same-length-12 : tie.Need-same-length-12
+same-length-12 c = search needs
+
+returns-86 : tie.Need-returns-86
+unfolding bits readsDst only lookup withOperand operations arithmetic comparisons jump loads storesOfImm storesOfSrc load storeOfImm storeOfSrc byClass
+returns-86 c = storing-register _ _ _ _ _ _ _ _ _ _ (c .before .before .before .before .before .before .before .before .before .before .pre .1 .0 .dst-named) (c .before .before .before .before .before .before .before .before .before .before .pre .1 .1) _ Eight (c .before .before .before .before .before .before .match .keys86) refl (c .before .before .store-register4 .ensures (c .before .before .before .before .before .before .before .before .before .before .args .regs .now) _ _ (c .before .before .before .before .before .before .before .before .before .before .pre .0))
+
+returns-87 : tie.Need-returns-87
+unfolding undecoded
+returns-87 c = let a = c .before .before .before .before .args in no-arm _ _ _ _ _ (a .op) (a .dst) (a .src) (a .off) (a .imm) (c .before .before .before .before .pre .0) (default-holds undecoded 256 keys refl (a .op) (c .before .before .before .before .fits .op .fits) (c .match .rest))
+
+pub obey-spec : {M : Type 1} → statement M
+obey-spec =
+    tie.close
+    (tie.spec
+    extend32-requires
+    mul-add64
+    element-copy-out-add64
+    add64-requires
+    put-immediate-requires
+    mul-add64-2
+    element-copy-out-add64-2
+    mul-add64-3
+    element-copy-out-add64-3
+    add64-requires-2
+    put-register-requires
+    mul-sub64
+    element-copy-out-sub64
+    sub64-requires
+    put-immediate-requires-2
+    mul-sub64-2
+    element-copy-out-sub64-2
+    mul-sub64-3
+    element-copy-out-sub64-3
+    sub64-requires-2
+    put-register-requires-2
+    mul-mul64
+    element-copy-out-mul64
+    mul64-requires
+    put-immediate-requires-3
+    mul-mul64-2
+    element-copy-out-mul64-2
+    mul-mul64-3
+    element-copy-out-mul64-3
+    mul64-requires-2
+    put-register-requires-3
+    mul-div64
+    element-copy-out-div64
+    div64-requires
+    put-immediate-requires-4
+    mul-div64-2
+    element-copy-out-div64-2
+    mul-div64-3
+    element-copy-out-div64-3
+    div64-requires-2
+    put-register-requires-4
+    mul-or64
+    element-copy-out-or64
+    or64-requires
+    put-immediate-requires-5
+    mul-or64-2
+    element-copy-out-or64-2
+    mul-or64-3
+    element-copy-out-or64-3
+    or64-requires-2
+    put-register-requires-5
+    mul-and64
+    element-copy-out-and64
+    and64-requires
+    put-immediate-requires-6
+    mul-and64-2
+    element-copy-out-and64-2
+    mul-and64-3
+    element-copy-out-and64-3
+    and64-requires-2
+    put-register-requires-6
+    mul-lsh64
+    element-copy-out-lsh64
+    lsh64-requires
+    put-immediate-requires-7
+    mul-lsh64-2
+    element-copy-out-lsh64-2
+    mul-lsh64-3
+    element-copy-out-lsh64-3
+    lsh64-requires-2
+    put-register-requires-7
+    mul-rsh64
+    element-copy-out-rsh64
+    rsh64-requires
+    put-immediate-requires-8
+    mul-rsh64-2
+    element-copy-out-rsh64-2
+    mul-rsh64-3
+    element-copy-out-rsh64-3
+    rsh64-requires-2
+    put-register-requires-8
+    mul-neg64
+    element-copy-out-neg64
+    neg64-requires
+    negate-requires
+    mul-mod64
+    element-copy-out-mod64
+    mod64-requires
+    put-immediate-requires-9
+    mul-mod64-2
+    element-copy-out-mod64-2
+    mul-mod64-3
+    element-copy-out-mod64-3
+    mod64-requires-2
+    put-register-requires-9
+    mul-xor64
+    element-copy-out-xor64
+    xor64-requires
+    put-immediate-requires-10
+    mul-xor64-2
+    element-copy-out-xor64-2
+    mul-xor64-3
+    element-copy-out-xor64-3
+    xor64-requires-2
+    put-register-requires-10
+    mov64-requires
+    move-immediate-requires
+    mul-mov64
+    element-copy-out-mov64
+    mov64-requires-2
+    move-register-requires
+    mul-arsh64
+    element-copy-out-arsh64
+    arsh64-requires
+    put-immediate-requires-11
+    mul-arsh64-2
+    element-copy-out-arsh64-2
+    mul-arsh64-3
+    element-copy-out-arsh64-3
+    arsh64-requires-2
+    put-register-requires-11
+    mul-add32
+    element-copy-out-add32
+    add32-requires
+    put-immediate-requires-12
+    mul-add32-2
+    element-copy-out-add32-2
+    mul-add32-3
+    element-copy-out-add32-3
+    add32-requires-2
+    put-register-requires-12
+    mul-sub32
+    element-copy-out-sub32
+    sub32-requires
+    put-immediate-requires-13
+    mul-sub32-2
+    element-copy-out-sub32-2
+    mul-sub32-3
+    element-copy-out-sub32-3
+    sub32-requires-2
+    put-register-requires-13
+    mul-mul32
+    element-copy-out-mul32
+    mul32-requires
+    put-immediate-requires-14
+    mul-mul32-2
+    element-copy-out-mul32-2
+    mul-mul32-3
+    element-copy-out-mul32-3
+    mul32-requires-2
+    put-register-requires-14
+    mul-div32
+    element-copy-out-div32
+    div32-requires
+    put-immediate-requires-15
+    mul-div32-2
+    element-copy-out-div32-2
+    mul-div32-3
+    element-copy-out-div32-3
+    div32-requires-2
+    put-register-requires-15
+    mul-or32
+    element-copy-out-or32
+    or32-requires
+    put-immediate-requires-16
+    mul-or32-2
+    element-copy-out-or32-2
+    mul-or32-3
+    element-copy-out-or32-3
+    or32-requires-2
+    put-register-requires-16
+    mul-and32
+    element-copy-out-and32
+    and32-requires
+    put-immediate-requires-17
+    mul-and32-2
+    element-copy-out-and32-2
+    mul-and32-3
+    element-copy-out-and32-3
+    and32-requires-2
+    put-register-requires-17
+    mul-lsh32
+    element-copy-out-lsh32
+    lsh32-requires
+    put-immediate-requires-18
+    mul-lsh32-2
+    element-copy-out-lsh32-2
+    mul-lsh32-3
+    element-copy-out-lsh32-3
+    lsh32-requires-2
+    put-register-requires-18
+    mul-rsh32
+    element-copy-out-rsh32
+    rsh32-requires
+    put-immediate-requires-19
+    mul-rsh32-2
+    element-copy-out-rsh32-2
+    mul-rsh32-3
+    element-copy-out-rsh32-3
+    rsh32-requires-2
+    put-register-requires-19
+    mul-neg32
+    element-copy-out-neg32
+    neg32-requires
+    negate-requires-2
+    mul-mod32
+    element-copy-out-mod32
+    mod32-requires
+    put-immediate-requires-20
+    mul-mod32-2
+    element-copy-out-mod32-2
+    mul-mod32-3
+    element-copy-out-mod32-3
+    mod32-requires-2
+    put-register-requires-20
+    mul-xor32
+    element-copy-out-xor32
+    xor32-requires
+    put-immediate-requires-21
+    mul-xor32-2
+    element-copy-out-xor32-2
+    mul-xor32-3
+    element-copy-out-xor32-3
+    xor32-requires-2
+    put-register-requires-21
+    mov32-requires
+    move-immediate-requires-2
+    mul-mov32
+    element-copy-out-mov32
+    mov32-requires-2
+    move-register-requires-2
+    mul-arsh32
+    element-copy-out-arsh32
+    arsh32-requires
+    put-immediate-requires-22
+    mul-arsh32-2
+    element-copy-out-arsh32-2
+    mul-arsh32-3
+    element-copy-out-arsh32-3
+    arsh32-requires-2
+    put-register-requires-22
+    jump-always-requires
+    element-copy-out-exit
+    exit-requires
+    mul-eq64
+    element-copy-out-eq64
+    eq64-requires
+    jump-immediate-requires
+    mul-eq64-2
+    element-copy-out-eq64-2
+    mul-eq64-3
+    element-copy-out-eq64-3
+    eq64-requires-2
+    jump-register-requires
+    mul-gt64
+    element-copy-out-gt64
+    gt64-requires
+    jump-immediate-requires-2
+    mul-gt64-2
+    element-copy-out-gt64-2
+    mul-gt64-3
+    element-copy-out-gt64-3
+    gt64-requires-2
+    jump-register-requires-2
+    mul-ge64
+    element-copy-out-ge64
+    ge64-requires
+    jump-immediate-requires-3
+    mul-ge64-2
+    element-copy-out-ge64-2
+    mul-ge64-3
+    element-copy-out-ge64-3
+    ge64-requires-2
+    jump-register-requires-3
+    mul-set64
+    element-copy-out-set64
+    set64-requires
+    jump-immediate-requires-4
+    mul-set64-2
+    element-copy-out-set64-2
+    mul-set64-3
+    element-copy-out-set64-3
+    set64-requires-2
+    jump-register-requires-4
+    mul-ne64
+    element-copy-out-ne64
+    ne64-requires
+    jump-immediate-requires-5
+    mul-ne64-2
+    element-copy-out-ne64-2
+    mul-ne64-3
+    element-copy-out-ne64-3
+    ne64-requires-2
+    jump-register-requires-5
+    mul-sgt64
+    element-copy-out-sgt64
+    sgt64-requires
+    jump-immediate-requires-6
+    mul-sgt64-2
+    element-copy-out-sgt64-2
+    mul-sgt64-3
+    element-copy-out-sgt64-3
+    sgt64-requires-2
+    jump-register-requires-6
+    mul-sge64
+    element-copy-out-sge64
+    sge64-requires
+    jump-immediate-requires-7
+    mul-sge64-2
+    element-copy-out-sge64-2
+    mul-sge64-3
+    element-copy-out-sge64-3
+    sge64-requires-2
+    jump-register-requires-7
+    mul-lt64
+    element-copy-out-lt64
+    lt64-requires
+    jump-immediate-requires-8
+    mul-lt64-2
+    element-copy-out-lt64-2
+    mul-lt64-3
+    element-copy-out-lt64-3
+    lt64-requires-2
+    jump-register-requires-8
+    mul-le64
+    element-copy-out-le64
+    le64-requires
+    jump-immediate-requires-9
+    mul-le64-2
+    element-copy-out-le64-2
+    mul-le64-3
+    element-copy-out-le64-3
+    le64-requires-2
+    jump-register-requires-9
+    mul-slt64
+    element-copy-out-slt64
+    slt64-requires
+    jump-immediate-requires-10
+    mul-slt64-2
+    element-copy-out-slt64-2
+    mul-slt64-3
+    element-copy-out-slt64-3
+    slt64-requires-2
+    jump-register-requires-10
+    mul-sle64
+    element-copy-out-sle64
+    sle64-requires
+    jump-immediate-requires-11
+    mul-sle64-2
+    element-copy-out-sle64-2
+    mul-sle64-3
+    element-copy-out-sle64-3
+    sle64-requires-2
+    jump-register-requires-11
+    mul-load-into
+    element-copy-out-load-into
+    load-into-requires
+    mul-load-into-2
+    element-copy-out-load-into-2
+    load-into-requires-2
+    mul-load-into-3
+    element-copy-out-load-into-3
+    load-into-requires-3
+    mul-load-into-4
+    element-copy-out-load-into-4
+    load-into-requires-4
+    mul-store-immediate
+    element-copy-out-store-immediate
+    store-immediate-requires
+    mul-store-immediate-2
+    element-copy-out-store-immediate-2
+    store-immediate-requires-2
+    mul-store-immediate-3
+    element-copy-out-store-immediate-3
+    store-immediate-requires-3
+    mul-store-immediate-4
+    element-copy-out-store-immediate-4
+    store-immediate-requires-4
+    mul-store-register
+    element-copy-out-store-register
+    mul-store-register-2
+    element-copy-out-store-register-2
+    store-register-requires
+    mul-store-register-3
+    element-copy-out-store-register-3
+    mul-store-register-4
+    element-copy-out-store-register-4
+    store-register-requires-2
+    mul-store-register-5
+    element-copy-out-store-register-5
+    mul-store-register-6
+    element-copy-out-store-register-6
+    store-register-requires-3
+    mul-store-register-7
+    element-copy-out-store-register-7
+    mul-store-register-8
+    element-copy-out-store-register-8
+    store-register-requires-4
+    returns
+    returns-2
+    returns-3
+    returns-4
+    returns-5
+    returns-6
+    returns-7
+    returns-8
+    returns-9
+    returns-10
+    returns-11
+    returns-12
+    returns-13
+    returns-14
+    returns-15
+    returns-16
+    returns-17
+    returns-18
+    returns-19
+    returns-20
+    returns-21
+    returns-22
+    returns-23
+    returns-24
+    returns-25
+    returns-26
+    returns-27
+    returns-28
+    returns-29
+    returns-30
+    returns-31
+    returns-32
+    returns-33
+    returns-34
+    returns-35
+    returns-36
+    returns-37
+    returns-38
+    returns-39
+    returns-40
+    returns-41
+    returns-42
+    returns-43
+    returns-44
+    returns-45
+    returns-46
+    returns-47
+    returns-48
+    returns-49
+    returns-50
+    returns-51
+    returns-52
+    returns-53
+    returns-54
+    returns-55
+    returns-56
+    returns-57
+    returns-58
+    returns-59
+    returns-60
+    returns-61
+    returns-62
+    returns-63
+    returns-64
+    returns-65
+    returns-66
+    returns-67
+    returns-68
+    returns-69
+    returns-70
+    returns-71
+    returns-72
+    returns-73
+    returns-74
+    same-length
+    returns-75
+    same-length-2
+    returns-76
+    same-length-3
+    returns-77
+    same-length-4
+    returns-78
+    same-length-5
+    returns-79
+    same-length-6
+    returns-80
+    same-length-7
+    returns-81
+    same-length-8
+    returns-82
+    same-length-9
+    returns-83
+    same-length-10
+    returns-84
+    same-length-11
+    returns-85
+    same-length-12
+    returns-86
+    returns-87)

@@ -1,0 +1,92 @@
+use mathlib.Core.Path.{_≡_, refl, _∙_}
+use Prim.Native.Nat.{_-_, _≤_}
+use native.Mathlib.Omega.{arith}
+use lib.ListN.{length, length-set, length-replicate}
+use Rattle.machine.specs.Machine.{runs, start}
+use Rattle.dispatch.specs.Represent.{stateOf}
+use Rattle.interpreter.proofs.Runs.{run-goes, run-ends, run-faults, run-spent, run-starts}
+use borrow.Author.Needs.{needs}
+use Rattle.interpreter.proofs.run.Statement.{statement}
+use Rattle.interpreter.proofs.run.Tie as tie
+
+abbrev Inv-loop : tie.InvT-loop
+Inv-loop program rec p s stack₀ budget regs₀ pc₀ live₀ n₀ stack regs pc live n = (n ≤ budget) × ((length regs ≡ 11) × ((length stack ≡ length stack₀) × (runs program (record { rec = rec; P = p; S = s }) (budget - n) n (stateOf regs live stack pc) ≡ runs program (record { rec = rec; P = p; S = s }) budget 0 (start (record { rec = rec; P = p; S = s })))))
+
+abbrev μ-loop : tie.MeasureT-loop
+μ-loop program rec p s stack₀ budget regs₀ pc₀ live₀ n₀ stack regs pc live n = budget - n
+
+array-write-regs : tie.Need-array-write-regs Inv-loop μ-loop
+array-write-regs c = search needs
+
+add-regs : tie.Need-add-regs Inv-loop μ-loop
+add-regs c = search needs
+
+array-write-regs-2 : tie.Need-array-write-regs-2 Inv-loop μ-loop
+array-write-regs-2 c = search needs
+
+loop-holds : tie.Need-loop-holds Inv-loop μ-loop
+loop-holds c = (search needs, (simp (length-set, length-replicate), (refl, run-starts _ _ _ _ (c .before .before .before .pre .1))))
+
+add-made : tie.Need-add-made Inv-loop μ-loop
+add-made c = search needs
+
+step-requires : tie.Need-step-requires Inv-loop μ-loop
+step-requires c κs = c .before .before .before .loop .inv .1 .0
+
+enum-known-pc2 : tie.Need-enum-known-pc2 Inv-loop μ-loop
+enum-known-pc2 c = search needs
+
+enum-known-v : tie.Need-enum-known-v Inv-loop μ-loop
+enum-known-v c = search needs
+
+same-length : tie.Need-same-length Inv-loop μ-loop
+same-length c = c .before .before .before .before .before .step .kept .1 .1 .1 .1 .1 .1 .1 .0 ∙ c .before .before .before .before .before .before .before .before .before .loop .inv .1 .1 .0
+
+returns : tie.Need-returns Inv-loop μ-loop
+returns c = run-ends _ _ _ _ _ _ _ _ (c .before .before .before .before .before .before .before .before .loop-test .taken) (c .before .before .before .before .before .step .ensures) _ (c .before .v .given .1) ∙ c .before .before .before .before .before .before .before .before .before .loop .inv .1 .1 .1
+
+enum-known-c : tie.Need-enum-known-c Inv-loop μ-loop
+enum-known-c c = search needs
+
+same-length-2 : tie.Need-same-length-2 Inv-loop μ-loop
+same-length-2 c = c .before .before .before .before .before .step .kept .1 .1 .1 .1 .1 .1 .1 .0 ∙ c .before .before .before .before .before .before .before .before .before .loop .inv .1 .1 .0
+
+returns-2 : tie.Need-returns-2 Inv-loop μ-loop
+unfolding stateOf
+returns-2 c = run-faults _ _ _ _ _ _ _ _ (c .before .before .before .before .before .before .before .before .loop-test .taken) (c .before .before .before .before .before .step .ensures) _ (c .before .c .given .1) ∙ c .before .before .before .before .before .before .before .before .before .loop .inv .1 .1 .1
+
+loop-less : tie.Need-loop-less Inv-loop μ-loop
+loop-less c = search needs
+
+loop-again : tie.Need-loop-again Inv-loop μ-loop
+loop-again c = (omega arith, (c .before .before .before .before .before .step .ensures .eleven, (c .before .before .before .before .before .step .kept .1 .1 .1 .1 .1 .1 .1 .0 ∙ c .before .before .before .before .before .before .before .before .before .loop .inv .1 .1 .0, run-goes _ _ _ _ _ _ _ _ (c .before .before .before .before .before .before .before .before .loop-test .taken) (c .before .before .before .before .before .step .ensures) _ _ (c .before .pc2 .given .1) ∙ c .before .before .before .before .before .before .before .before .before .loop .inv .1 .1 .1)))
+
+same-length-3 : tie.Need-same-length-3 Inv-loop μ-loop
+same-length-3 c = c .before .loop .inv .1 .1 .0
+
+returns-3 : tie.Need-returns-3 Inv-loop μ-loop
+returns-3 c = run-spent _ _ _ _ _ _ _ _ (c .loop-test .left) ∙ c .before .loop .inv .1 .1 .1
+
+pub run-spec : {M : Type 1} → statement M
+run-spec =
+    tie.close
+    (tie.spec
+    Inv-loop
+    μ-loop
+    array-write-regs
+    add-regs
+    array-write-regs-2
+    loop-holds
+    add-made
+    step-requires
+    enum-known-pc2
+    enum-known-v
+    same-length
+    returns
+    enum-known-c
+    same-length-2
+    returns-2
+    loop-less
+    loop-again
+    same-length-3
+    returns-3)
