@@ -1,0 +1,3 @@
+pub mod Words
+pub mod Sizing
+pub mod Replies

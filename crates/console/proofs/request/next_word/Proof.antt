@@ -1,0 +1,18 @@
+-- `next_word` answers where the first word lies: what `skip` and `find` ensure, put together.
+-- Assumes nothing.
+use borrow.Author.Needs.{needs}
+use Rattle.console.proofs.Words.{next}
+use Rattle.console.proofs.request.next_word.Statement.{statement}
+use Rattle.console.proofs.request.next_word.Tie as tie
+
+skip-requires : tie.Need-skip-requires
+skip-requires c κs = search needs
+
+find-requires : tie.Need-find-requires
+find-requires c κs = search needs
+
+returns : tie.Need-returns
+returns c = next (c .before .before .before .args .line .now) (c .before .before .before .args .from) (c .before .skip .result) (c .find .result) (c .before .skip .ensures) (c .find .ensures)
+
+pub next-word-spec : {M : Type 1} → statement M
+next-word-spec = tie.close (tie.spec skip-requires find-requires returns)

@@ -1,0 +1,148 @@
+// The answer to a request line.
+// Assumes nothing.
+ghost use mathlib.Core.Path.{_≡_};
+ghost use Prim.Native.Nat.{_≤_};
+ghost use lib.ListN.{length, drop};
+ghost use Rattle.console.specs.Request.{after, numbersOf, sizesOf};
+ghost use Rattle.console.specs.Answer.{Replied, ReplyTo, numberOf};
+use crate::request::Numbers;
+use crate::request::Sizes;
+use crate::request::is_word;
+use crate::request::next_word;
+use crate::request::past_four;
+use crate::request::read_bytes;
+use crate::request::read_numbers;
+use interpreter::interpret;
+use machine::outcome::Cause;
+use machine::outcome::Outcome;
+use text::buffer::put;
+use text::buffer::put_decimal;
+use text::buffer::put_text;
+
+// A line with more characters is no request, whatever it says.
+pub const LONGEST: usize = 70000;
+
+// What a request comes to.
+pub enum Reply {
+    Ran(Outcome),
+    Bad,
+}
+
+fn execute(
+    program: &[u8],
+    n: usize,
+    rec: &[u8],
+    k: usize,
+    p: u64,
+    s: u64,
+    stack: &mut [u8],
+    budget: u64,
+) -> Outcome
+    requires { ⌜ (n ≤ length (now program)) × (k ≤ length (now rec)) ⌝ }
+{
+    interpret(&program[0..n], &rec[0..k], p, s, stack, budget)
+}
+
+// R P S BUDGET PROGRAM RECORD from `from` on. A record of another length than R is refused before the machine sees it.
+fn run(line: &[u8], from: usize, program: &mut [u8], rec: &mut [u8], stack: &mut [u8]) -> Reply
+    requires { ⌜ from ≤ length (now line) ⌝ }
+    ensures { λ r. ⌜ Replied (numbersOf (drop from (now (line .entry)))) (sizesOf (after (after (after (after (drop from (now (line .entry))))))) (length (now (program .entry))) (length (now (rec .entry)))) r ⌝ }
+{
+    let numbers = read_numbers(line, from);
+    let at = past_four(line, from);
+    let sizes = read_bytes(line, at, program, rec);
+    let Numbers::Are { size, p, s, budget } = numbers else {
+        return Reply::Bad;
+    };
+    let Sizes::Are { program: n, rec: k } = sizes else {
+        return Reply::Bad;
+    };
+    if size != (k as u64) {
+        return Reply::Ran(Outcome::Refused);
+    }
+    Reply::Ran(execute(program, n, rec, k, p, s, stack, budget))
+}
+
+// The first word is the verb, and each verb has its function.
+fn reply_to(line: &[u8], program: &mut [u8], rec: &mut [u8], stack: &mut [u8]) -> Reply
+    ensures { λ r. ⌜ ReplyTo (now (line .entry)) (length (now (program .entry))) (length (now (rec .entry))) r ⌝ }
+{
+    if line.len() > LONGEST {
+        return Reply::Bad;
+    }
+    let verb = next_word(line, 0);
+    let end = verb.end;
+    if is_word(line, verb, b"run") {
+        return run(line, end, program, rec, stack);
+    }
+    Reply::Bad
+}
+
+fn number_of(cause: Cause) -> u64
+    ensures { λ r. ⌜ r ≡ numberOf cause ⌝ }
+{
+    match cause {
+        Cause::BadCode => 1,
+        Cause::OffEnd => 2,
+        Cause::Unset => 3,
+        Cause::WriteR10 => 4,
+        Cause::BadAccess => 5,
+    }
+}
+
+// A word and two numbers.
+fn put_pair(out: &mut [u8], at: usize, word: &[u8], a: u64, b: u64) -> usize
+    requires { ⌜ at ≤ length (now out) ⌝ }
+    ensures { λ r. ⌜ (at ≤ r) × (r ≤ length (now (out .entry))) ⌝ }
+{
+    let i = put_text(out, at, word);
+    let j = put_decimal(out, i, a);
+    let k = put(out, j, b' ');
+    put_decimal(out, k, b)
+}
+
+fn put_outcome(out: &mut [u8], at: usize, outcome: Outcome) -> usize
+    requires { ⌜ at ≤ length (now out) ⌝ }
+    ensures { λ r. ⌜ (at ≤ r) × (r ≤ length (now (out .entry))) ⌝ }
+{
+    match outcome {
+        Outcome::Verdict { value, steps } => put_pair(out, at, b"verdict ", value, steps),
+        Outcome::Fault {
+            cause,
+            at: _,
+            steps,
+        } => put_pair(out, at, b"fault ", number_of(cause), steps),
+        Outcome::Budget { steps } => {
+            let i = put_text(out, at, b"budget ");
+            put_decimal(out, i, steps)
+        }
+        Outcome::Refused => put_text(out, at, b"refused"),
+    }
+}
+
+fn put_reply(out: &mut [u8], at: usize, reply: Reply) -> usize
+    requires { ⌜ at ≤ length (now out) ⌝ }
+    ensures { λ r. ⌜ (at ≤ r) × (r ≤ length (now (out .entry))) ⌝ }
+{
+    match reply {
+        Reply::Ran(outcome) => put_outcome(out, at, outcome),
+        Reply::Bad => put_text(out, at, b"error"),
+    }
+}
+
+// Puts the answer to a line from `at` on, with its line end: at most 50 characters, cut where `out` ends.
+pub fn respond(
+    line: &[u8],
+    program: &mut [u8],
+    rec: &mut [u8],
+    stack: &mut [u8],
+    out: &mut [u8],
+    at: usize,
+) -> usize
+    requires { ⌜ at ≤ length (now out) ⌝ }
+    ensures { λ r. ⌜ (at ≤ r) × (r ≤ length (now (out .entry))) ⌝ }
+{
+    let reply = reply_to(line, program, rec, stack);
+    let end = put_reply(out, at, reply);
+    put(out, end, b'\n')
+}

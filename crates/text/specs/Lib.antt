@@ -1,0 +1,4 @@
+pub mod Scan
+pub mod Digit
+pub mod Number
+pub mod Hex

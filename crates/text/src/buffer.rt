@@ -1,0 +1,40 @@
+// Text put into a lent buffer from an index on. What finds no room is left out, so an answer that is the buffer's length may be cut.
+// Assumes nothing.
+ghost use Prim.Native.Nat.{_≤_};
+ghost use lib.ListN.{length};
+
+// Puts one character at `at`, and answers the index after it.
+pub fn put(out: &mut [u8], at: usize, b: u8) -> usize
+    requires { ⌜ at ≤ length (now out) ⌝ }
+    ensures { λ r. ⌜ (at ≤ r) × (r ≤ length (now (out .entry))) ⌝ }
+{
+    if at < out.len() {
+        out[at] = b;
+        return at + 1;
+    }
+    at
+}
+
+// Puts the characters of `s` from `at` on, and answers the index after them.
+pub fn put_text(out: &mut [u8], at: usize, s: &[u8]) -> usize
+    requires { ⌜ at ≤ length (now out) ⌝ }
+    ensures { λ r. ⌜ (at ≤ r) × (r ≤ length (now (out .entry))) ⌝ }
+{
+    let mut o = at;
+    let mut i = 0;
+    while i < s.len() {
+        o = put(out, o, s[i]);
+        i += 1;
+    }
+    o
+}
+
+// Puts `n` in decimal from `at` on, and answers the index after it.
+pub fn put_decimal(out: &mut [u8], at: usize, n: u64) -> usize
+    requires { ⌜ at ≤ length (now out) ⌝ }
+    ensures { λ r. ⌜ (at ≤ r) × (r ≤ length (now (out .entry))) ⌝ }
+{
+    let mut digits = [0u8; 20];
+    let k = io::decimal(n, &mut digits);
+    put_text(out, at, &digits[..k])
+}
