@@ -1,0 +1,56 @@
+#!/bin/sh
+# The batch command as a person has it: long lines, lines in pieces, a last line without its end, bad usage.
+# The answers to single requests are held by crates/batch/stdout. Ends in 'N passed, M failed'.
+set -u
+cd "$(dirname "$0")/.." || exit 2
+passed=0
+failed=0
+
+# same NAME WANTED FOUND
+same() {
+    if [ "$2" = "$3" ]; then
+        passed=$((passed + 1))
+    else
+        failed=$((failed + 1))
+        printf '%s: wanted [%s], found [%s]\n' "$1" "$2" "$3"
+    fi
+}
+
+# r0 = 7, exit; and a request of it that spaces make n characters long
+asks='run 0 65536 131072 9 b7000000070000009500000000000000 -'
+long() { awk -v n="$1" -v s="$asks" 'BEGIN { printf "%s", s; for (i = length(s); i < n; i++) printf " " }'; }
+lines() { tr '\n' '/'; }
+
+same 'a request' 'verdict 7 2/' "$(echo "$asks" | ./probewarden batch | lines)"
+same 'no request' '' "$(./probewarden batch </dev/null | lines)"
+same 'an empty line' 'error/verdict 7 2/' "$(printf '\n%s\n' "$asks" | ./probewarden batch | lines)"
+same 'a last line without its end' 'verdict 7 2/verdict 7 2/' "$(printf '%s\n%s' "$asks" "$asks" | ./probewarden batch | lines)"
+same 'a zero byte' 'error/verdict 7 2/' "$(printf 'run\0\n%s\n' "$asks" | ./probewarden batch | lines)"
+for n in 69999 70000; do
+    same "a line of $n" 'verdict 7 2/verdict 7 2/' "$({ long $n; printf '\n%s\n' "$asks"; } | ./probewarden batch | lines)"
+done
+for n in 70001 131071 131072 131073 262144 1000000; do
+    same "a line of $n" 'error/verdict 7 2/' "$({ long $n; printf '\n%s\n' "$asks"; } | ./probewarden batch | lines)"
+    same "a last line of $n" 'verdict 7 2/error/' "$({ printf '%s\n' "$asks"; long $n; } | ./probewarden batch | lines)"
+done
+same 'a line in pieces' 'verdict 7 2/verdict 7 2/' "$({ printf 'run 0 65536'; sleep 1; printf ' 131072 9 b7000000070000009500000000000000 -\n%s\n' "$asks"; } | ./probewarden batch | lines)"
+same 'many lines' '20000 verdict 7 2' "$(awk -v s="$asks" 'BEGIN { for (i = 0; i < 20000; i++) print s }' | ./probewarden batch | sort | uniq -c | sed 's/^ *//')"
+
+./probewarden 2>/dev/null
+same 'status without a verb' 2 $?
+./probewarden nothing 2>/dev/null
+same 'status of an unknown verb' 2 $?
+./probewarden batch more 2>/dev/null </dev/null
+same 'status of a word too many' 2 $?
+echo "$asks" | ./probewarden batch >/dev/null
+same 'status of batch' 0 $?
+same 'usage on standard error' 'usage: probewarden batch <requests >answers' "$(./probewarden 2>&1 >/dev/null)"
+
+# through a link, from another folder
+there=$(mktemp -d)
+ln -s "$PWD/probewarden" "$there/a link"
+same 'through a link' 'verdict 7 2/' "$(cd / && echo "$asks" | "$there/a link" batch | lines)"
+rm -r "$there"
+
+echo "$passed passed, $failed failed"
+[ "$failed" -eq 0 ]
