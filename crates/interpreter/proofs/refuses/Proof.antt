@@ -1,3 +1,5 @@
+-- `refuses`: the first test that holds decides; where none does, both addresses are low enough to add to.
+-- Assumes nothing.
 use mathlib.Core.Path.{sym, _∙_}
 use native.Mathlib.Omega.{arith}
 use borrow.Author.Tests.{lt-ltb, le-ltb, eq-eqb, ne-eqb}
@@ -6,9 +8,6 @@ use Rattle.interpreter.proofs.Runs.{address-low}
 use borrow.Author.Needs.{needs}
 use Rattle.interpreter.proofs.refuses.Statement.{statement}
 use Rattle.interpreter.proofs.refuses.Tie as tie
-
-bad-program-requires : tie.Need-bad-program-requires
-bad-program-requires c κs = search needs
 
 returns : tie.Need-returns
 unfolding refused badRecord badStack
@@ -22,15 +21,9 @@ returns-3 : tie.Need-returns-3
 unfolding refused badRecord badStack
 returns-3 c = simp (sym (c .before .before .before .bad-program .ensures) ∙ c .before .before .if1 .left, le-ltb _ _ (c .before .if2 .left), ne-eqb _ _ (c .if3 .taken))
 
-bad-address-requires : tie.Need-bad-address-requires
-bad-address-requires c κs = search needs
-
 returns-4 : tie.Need-returns-4
 unfolding refused badRecord badStack
 returns-4 c = simp (sym (c .before .before .before .before .before .bad-program .ensures) ∙ c .before .before .before .before .if1 .left, le-ltb _ _ (c .before .before .before .if2 .left), eq-eqb _ _ (c .before .before .if3 .left), sym (c .before .bad-address .ensures) ∙ c .if4 .taken)
-
-bad-address-requires-2 : tie.Need-bad-address-requires-2
-bad-address-requires-2 c κs = search needs
 
 returns-5 : tie.Need-returns-5
 unfolding refused badRecord badStack
@@ -47,13 +40,5 @@ pub refuses-spec : {M : Type 1} → statement M
 refuses-spec =
     tie.close
     (tie.spec
-    bad-program-requires
-    returns
-    returns-2
-    returns-3
-    bad-address-requires
-    returns-4
-    bad-address-requires-2
-    returns-5
-    overlap-requires
-    returns-6)
+    (λ c κs. search needs) returns returns-2 returns-3 (λ c κs. search needs) returns-4 (λ c κs. search needs)
+    returns-5 overlap-requires returns-6)

@@ -1,3 +1,5 @@
+-- `run`: what is left of the run from here is the whole run, by `Leads` of each step. The measure is what is left of the budget.
+-- Assumes nothing.
 use mathlib.Core.Path.{_≡_, refl, _∙_}
 use Prim.Native.Nat.{_-_, _≤_}
 use native.Mathlib.Omega.{arith}
@@ -15,29 +17,11 @@ Inv-loop program rec p s stack₀ budget regs₀ pc₀ live₀ n₀ stack regs p
 abbrev μ-loop : tie.MeasureT-loop
 μ-loop program rec p s stack₀ budget regs₀ pc₀ live₀ n₀ stack regs pc live n = budget - n
 
-array-write-regs : tie.Need-array-write-regs Inv-loop μ-loop
-array-write-regs c = search needs
-
-add-regs : tie.Need-add-regs Inv-loop μ-loop
-add-regs c = search needs
-
-array-write-regs-2 : tie.Need-array-write-regs-2 Inv-loop μ-loop
-array-write-regs-2 c = search needs
-
 loop-holds : tie.Need-loop-holds Inv-loop μ-loop
 loop-holds c = (search needs, (simp (length-set, length-replicate), (refl, run-starts _ _ _ _ (c .before .before .before .pre .1))))
 
-add-made : tie.Need-add-made Inv-loop μ-loop
-add-made c = search needs
-
 step-requires : tie.Need-step-requires Inv-loop μ-loop
 step-requires c κs = c .before .before .before .loop .inv .1 .0
-
-enum-known-pc2 : tie.Need-enum-known-pc2 Inv-loop μ-loop
-enum-known-pc2 c = search needs
-
-enum-known-v : tie.Need-enum-known-v Inv-loop μ-loop
-enum-known-v c = search needs
 
 same-length : tie.Need-same-length Inv-loop μ-loop
 same-length c = c .before .before .before .before .before .step .kept .1 .1 .1 .1 .1 .1 .1 .0 ∙ c .before .before .before .before .before .before .before .before .before .loop .inv .1 .1 .0
@@ -45,18 +29,12 @@ same-length c = c .before .before .before .before .before .step .kept .1 .1 .1 .
 returns : tie.Need-returns Inv-loop μ-loop
 returns c = run-ends _ _ _ _ _ _ _ _ (c .before .before .before .before .before .before .before .before .loop-test .taken) (c .before .before .before .before .before .step .ensures) _ (c .before .v .given .1) ∙ c .before .before .before .before .before .before .before .before .before .loop .inv .1 .1 .1
 
-enum-known-c : tie.Need-enum-known-c Inv-loop μ-loop
-enum-known-c c = search needs
-
 same-length-2 : tie.Need-same-length-2 Inv-loop μ-loop
 same-length-2 c = c .before .before .before .before .before .step .kept .1 .1 .1 .1 .1 .1 .1 .0 ∙ c .before .before .before .before .before .before .before .before .before .loop .inv .1 .1 .0
 
 returns-2 : tie.Need-returns-2 Inv-loop μ-loop
 unfolding stateOf
 returns-2 c = run-faults _ _ _ _ _ _ _ _ (c .before .before .before .before .before .before .before .before .loop-test .taken) (c .before .before .before .before .before .step .ensures) _ (c .before .c .given .1) ∙ c .before .before .before .before .before .before .before .before .before .loop .inv .1 .1 .1
-
-loop-less : tie.Need-loop-less Inv-loop μ-loop
-loop-less c = search needs
 
 loop-again : tie.Need-loop-again Inv-loop μ-loop
 loop-again c = (omega arith, (c .before .before .before .before .before .step .ensures .eleven, (c .before .before .before .before .before .step .kept .1 .1 .1 .1 .1 .1 .1 .0 ∙ c .before .before .before .before .before .before .before .before .before .loop .inv .1 .1 .0, run-goes _ _ _ _ _ _ _ _ (c .before .before .before .before .before .before .before .before .loop-test .taken) (c .before .before .before .before .before .step .ensures) _ _ (c .before .pc2 .given .1) ∙ c .before .before .before .before .before .before .before .before .before .loop .inv .1 .1 .1)))
@@ -71,22 +49,6 @@ pub run-spec : {M : Type 1} → statement M
 run-spec =
     tie.close
     (tie.spec
-    Inv-loop
-    μ-loop
-    array-write-regs
-    add-regs
-    array-write-regs-2
-    loop-holds
-    add-made
-    step-requires
-    enum-known-pc2
-    enum-known-v
-    same-length
-    returns
-    enum-known-c
-    same-length-2
-    returns-2
-    loop-less
-    loop-again
-    same-length-3
-    returns-3)
+    Inv-loop μ-loop (λ c. search needs) (λ c. search needs) (λ c. search needs) loop-holds (λ c. search needs)
+    step-requires (λ c. search needs) (λ c. search needs) same-length returns (λ c. search needs) same-length-2
+    returns-2 (λ c. search needs) loop-again same-length-3 returns-3)

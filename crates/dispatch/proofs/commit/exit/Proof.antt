@@ -1,19 +1,9 @@
+-- `exit`: a fault of the tests, or the verdict.
+-- Assumes nothing.
 use Rattle.dispatch.proofs.Answers.{leads-end, stops, passes}
 use borrow.Author.Needs.{needs}
 use Rattle.dispatch.proofs.commit.exit.Statement.{statement}
 use Rattle.dispatch.proofs.commit.exit.Tie as tie
-
-has-requires : tie.Need-has-requires
-has-requires c κs = search needs
-
-tested-requires : tie.Need-tested-requires
-tested-requires c κs = search needs
-
-enum-known-c : tie.Need-enum-known-c
-enum-known-c c = search needs
-
-enum-told : tie.Need-enum-told
-enum-told c = search needs
 
 returns : tie.Need-returns
 returns c = λ g m pc e. stops _ _ _ _ (rw (c .before .before .before .before .has .ensures) at (c .before .before .before .tested .ensures)) _ (c .before .c .given .1) _ _ m e _ _ _
@@ -23,4 +13,6 @@ returns-2 c = λ g m pc e. passes _ _ _ _ (rw (c .before .before .before .has .e
 
 pub exit-spec : {M : Type 1} → statement M
 exit-spec =
-    tie.close (tie.spec has-requires tested-requires enum-known-c enum-told returns returns-2)
+    tie.close
+    (tie.spec
+    (λ c κs. search needs) (λ c κs. search needs) (λ c. search needs) (λ c. search needs) returns returns-2)

@@ -1,3 +1,5 @@
+-- `has` reads a bit of the mask.
+-- Assumes nothing.
 use mathlib.Core.Path.{refl}
 use Rattle.word.specs.Word.{bit}
 use Rattle.dispatch.specs.Represent.{isSet}
@@ -5,12 +7,9 @@ use borrow.Author.Needs.{needs}
 use Rattle.dispatch.proofs.commit.has.Statement.{statement}
 use Rattle.dispatch.proofs.commit.has.Tie as tie
 
-shr-result : tie.Need-shr-result
-shr-result c = search needs
-
 returns : tie.Need-returns
 unfolding isSet bit
 returns c = refl
 
 pub has-spec : {M : Type 1} → statement M
-has-spec = tie.close (tie.spec shr-result returns)
+has-spec = tie.close (tie.spec (λ c. search needs) returns)

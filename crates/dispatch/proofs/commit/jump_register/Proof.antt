@@ -1,25 +1,9 @@
+-- `jump_register`: a fault of the tests, or what `go` leads to.
+-- Assumes nothing.
 use Rattle.dispatch.proofs.Answers.{stops, passes}
 use borrow.Author.Needs.{needs}
 use Rattle.dispatch.proofs.commit.jump_register.Statement.{statement}
 use Rattle.dispatch.proofs.commit.jump_register.Tie as tie
-
-has-requires : tie.Need-has-requires
-has-requires c κs = search needs
-
-has-requires-2 : tie.Need-has-requires-2
-has-requires-2 c κs = search needs
-
-tested-requires : tie.Need-tested-requires
-tested-requires c κs = search needs
-
-enum-known-c : tie.Need-enum-known-c
-enum-known-c c = search needs
-
-enum-told : tie.Need-enum-told
-enum-told c = search needs
-
-go-requires : tie.Need-go-requires
-go-requires c κs = search needs
 
 returns : tie.Need-returns
 returns c = λ g m e. stops _ _ _ _ (rw (c .before .before .before .before .before .has .ensures, c .before .before .before .before .has2 .ensures) at (c .before .before .before .tested .ensures)) _ (c .before .c .given .1) _ _ m e _ _ _
@@ -31,11 +15,5 @@ pub jump-register-spec : {M : Type 1} → statement M
 jump-register-spec =
     tie.close
     (tie.spec
-    has-requires
-    has-requires-2
-    tested-requires
-    enum-known-c
-    enum-told
-    go-requires
-    returns
-    returns-2)
+    (λ c κs. search needs) (λ c κs. search needs) (λ c κs. search needs) (λ c. search needs) (λ c. search needs)
+    (λ c κs. search needs) returns returns-2)

@@ -1,3 +1,5 @@
+-- `keep`: dst is set in the mask, and writing its number is `put`.
+-- Assumes nothing.
 use lib.ListN.{length-set}
 use Rattle.dispatch.proofs.Registers.{one-shifted, set-after, others-as-before, put-is}
 use Rattle.dispatch.proofs.Answers.{leads-go}
@@ -5,20 +7,11 @@ use borrow.Author.Needs.{needs}
 use Rattle.dispatch.proofs.commit.keep.Statement.{statement}
 use Rattle.dispatch.proofs.commit.keep.Tie as tie
 
-mul-regs : tie.Need-mul-regs
-mul-regs c = search needs
-
-element-write-regs : tie.Need-element-write-regs
-element-write-regs c = search needs
-
-add-t10 : tie.Need-add-t10
-add-t10 c = search needs
-
-shl-t11 : tie.Need-shl-t11
-shl-t11 c = search needs
-
 returns : tie.Need-returns
 returns c = λ m. rw (one-shifted (c .args .dst) (c .pre .1 .dst-named)) (leads-go _ _ _ _ _ (simp length-set (c .pre .0)) _ _ _ _ (put-is _ _ _ _ _ (c .pre .1 .dst-named) (c .pre .0) (set-after (c .args .live) (c .args .dst)) (others-as-before (c .args .live) (c .args .dst)) m _))
 
 pub keep-spec : {M : Type 1} → statement M
-keep-spec = tie.close (tie.spec mul-regs element-write-regs add-t10 shl-t11 returns)
+keep-spec =
+    tie.close
+    (tie.spec
+    (λ c. search needs) (λ c. search needs) (λ c. search needs) (λ c. search needs) returns)

@@ -1,21 +1,11 @@
+-- `negate`: a fault of the tests, or what `change` leads to, since dst is set.
+-- Assumes nothing.
 use mathlib.Core.Bool.{_&&_}
 use lib.Dec.{eqb}
 use Rattle.dispatch.proofs.Answers.{stops, all-set, passes, not-unset}
 use borrow.Author.Needs.{needs}
 use Rattle.dispatch.proofs.commit.negate.Statement.{statement}
 use Rattle.dispatch.proofs.commit.negate.Tie as tie
-
-has-requires : tie.Need-has-requires
-has-requires c κs = search needs
-
-tested-requires : tie.Need-tested-requires
-tested-requires c κs = search needs
-
-enum-known-c : tie.Need-enum-known-c
-enum-known-c c = search needs
-
-enum-told : tie.Need-enum-told
-enum-told c = search needs
 
 change-requires : tie.Need-change-requires
 change-requires c κs = let a = c .before .before .before .before .before .args in (c .before .before .before .before .before .pre .0, (c .before .before .before .before .before .pre .1, not-unset _ (all-set (eqb (a .off) 0 && (eqb (a .src) 0 && eqb (a .imm) 0)) (eqb (a .dst) 10) _ _ (rw (c .before .before .before .before .has .ensures) at (c .before .before .before .tested .ensures)) (c .before .enum-told .given .1))))
@@ -30,10 +20,5 @@ pub negate-spec : {M : Type 1} → statement M
 negate-spec =
     tie.close
     (tie.spec
-    has-requires
-    tested-requires
-    enum-known-c
-    enum-told
-    change-requires
-    returns
+    (λ c κs. search needs) (λ c κs. search needs) (λ c. search needs) (λ c. search needs) change-requires returns
     returns-2)

@@ -1,3 +1,5 @@
+-- `store_at`: the store that was made, or a bad access with the stack as it was.
+-- Assumes nothing.
 use mathlib.Core.Path.{refl, sym, _∙_}
 use Rattle.machine.specs.Machine.{address}
 use Rattle.dispatch.proofs.Answers.{leads-to, leads-fault, leads-go, store-made, store-barred}
@@ -5,27 +7,9 @@ use borrow.Author.Needs.{needs}
 use Rattle.dispatch.proofs.commit.store_at.Statement.{statement}
 use Rattle.dispatch.proofs.commit.store_at.Tie as tie
 
-extend16-requires : tie.Need-extend16-requires
-extend16-requires c κs = search needs
-
-wrapping-add-u64-requires : tie.Need-wrapping-add-u64-requires
-wrapping-add-u64-requires c κs = search needs
-
-store-requires : tie.Need-store-requires
-store-requires c κs = search needs
-
-add-t14 : tie.Need-add-t14
-add-t14 c = search needs
-
-same-length : tie.Need-same-length
-same-length c = search needs
-
 returns : tie.Need-returns
 unfolding address
 returns c = λ g rec P e. leads-to (store-made _ g _ _ _ _ _ _ (rw (← c .before .before .before .before .before .before .extend16 .ensures, ← c .before .before .before .before .before .wrapping-add-u64 .ensures) (sym (c .before .before .before .store .ensures .0) ∙ c .if1 .taken)) _ (rw (← c .before .before .before .before .before .before .extend16 .ensures, ← c .before .before .before .before .before .wrapping-add-u64 .ensures) (simp (c .if1 .taken) at (c .before .before .before .store .ensures .1)))) (leads-go _ _ _ _ _ e _ _ _ _ refl)
-
-same-length-2 : tie.Need-same-length-2
-same-length-2 c = search needs
 
 returns-2 : tie.Need-returns-2
 unfolding address
@@ -35,11 +19,5 @@ pub store-at-spec : {M : Type 1} → statement M
 store-at-spec =
     tie.close
     (tie.spec
-    extend16-requires
-    wrapping-add-u64-requires
-    store-requires
-    add-t14
-    same-length
-    returns
-    same-length-2
-    returns-2)
+    (λ c κs. search needs) (λ c κs. search needs) (λ c κs. search needs) (λ c. search needs) (λ c. search needs)
+    returns (λ c. search needs) returns-2)

@@ -1,3 +1,5 @@
+-- `tested`: each way out is a case of the three tests.
+-- Assumes nothing.
 use borrow.Author.Tests.{not-true, not-false}
 use Rattle.dispatch.proofs.commit.tested.Statement.{statement}
 use Rattle.dispatch.proofs.commit.tested.Tie as tie

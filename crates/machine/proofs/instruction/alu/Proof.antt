@@ -1,3 +1,5 @@
+-- `alu` takes the second operand by bit 3.
+-- Assumes nothing.
 use borrow.Author.Tests.{eq-eqb, ne-eqb}
 use Rattle.machine.specs.Instruction.{only, withOperand}
 use borrow.Author.Needs.{needs}
@@ -7,9 +9,6 @@ use Rattle.machine.proofs.instruction.alu.Tie as tie
 returns : tie.Need-returns
 unfolding withOperand only
 returns c = rw (c .before .if1 .taken) (simp (ne-eqb _ _ (c .if2 .taken)))
-
-extend32-requires : tie.Need-extend32-requires
-extend32-requires c κs = search needs
 
 returns-2 : tie.Need-returns-2
 unfolding withOperand only
@@ -24,4 +23,4 @@ unfolding withOperand only
 returns-4 c = simp (ne-eqb _ _ (c .before .if1 .left), eq-eqb _ _ (c .if3 .left))
 
 pub alu-spec : {M : Type 1} → statement M
-alu-spec = tie.close (tie.spec returns extend32-requires returns-2 returns-3 returns-4)
+alu-spec = tie.close (tie.spec returns (λ c κs. search needs) returns-2 returns-3 returns-4)

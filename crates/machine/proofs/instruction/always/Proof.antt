@@ -1,10 +1,9 @@
+-- `always`: JA where its unused fields are 0.
+-- Assumes nothing.
 use Rattle.machine.specs.Instruction.{only}
 use borrow.Author.Needs.{needs}
 use Rattle.machine.proofs.instruction.always.Statement.{statement}
 use Rattle.machine.proofs.instruction.always.Tie as tie
-
-extend16-requires : tie.Need-extend16-requires
-extend16-requires c κs = search needs
 
 returns : tie.Need-returns
 unfolding only
@@ -15,4 +14,4 @@ unfolding only
 returns-2 c = simp (c .if1 .left)
 
 pub always-spec : {M : Type 1} → statement M
-always-spec = tie.close (tie.spec extend16-requires returns returns-2)
+always-spec = tie.close (tie.spec (λ c κs. search needs) returns returns-2)

@@ -1,3 +1,5 @@
+-- `arithmetic`: an arm is a line of the table of operations; where there is no arm there is no line.
+-- Assumes nothing.
 use borrow.Author.Tests.{ne-eqb}
 use Rattle.machine.specs.Instruction.{only, lookup, operations, arithmetic}
 use borrow.Author.Needs.{needs}
@@ -7,45 +9,6 @@ use Rattle.machine.proofs.instruction.arithmetic.Tie as tie
 returns : tie.Need-returns
 unfolding arithmetic only
 returns c = simp (ne-eqb _ _ (c .if1 .taken))
-
-alu-requires : tie.Need-alu-requires
-alu-requires c κs = search needs
-
-alu-requires-2 : tie.Need-alu-requires-2
-alu-requires-2 c κs = search needs
-
-alu-requires-3 : tie.Need-alu-requires-3
-alu-requires-3 c κs = search needs
-
-alu-requires-4 : tie.Need-alu-requires-4
-alu-requires-4 c κs = search needs
-
-alu-requires-5 : tie.Need-alu-requires-5
-alu-requires-5 c κs = search needs
-
-alu-requires-6 : tie.Need-alu-requires-6
-alu-requires-6 c κs = search needs
-
-alu-requires-7 : tie.Need-alu-requires-7
-alu-requires-7 c κs = search needs
-
-alu-requires-8 : tie.Need-alu-requires-8
-alu-requires-8 c κs = search needs
-
-neg-requires : tie.Need-neg-requires
-neg-requires c κs = search needs
-
-alu-requires-9 : tie.Need-alu-requires-9
-alu-requires-9 c κs = search needs
-
-alu-requires-10 : tie.Need-alu-requires-10
-alu-requires-10 c κs = search needs
-
-alu-requires-11 : tie.Need-alu-requires-11
-alu-requires-11 c κs = search needs
-
-alu-requires-12 : tie.Need-alu-requires-12
-alu-requires-12 c κs = search needs
 
 returns-2 : tie.Need-returns-2
 unfolding arithmetic only lookup operations
@@ -124,31 +87,8 @@ pub arithmetic-spec : {M : Type 1} → statement M
 arithmetic-spec =
     tie.close
     (tie.spec
-    returns
-    alu-requires
-    alu-requires-2
-    alu-requires-3
-    alu-requires-4
-    alu-requires-5
-    alu-requires-6
-    alu-requires-7
-    alu-requires-8
-    neg-requires
-    alu-requires-9
-    alu-requires-10
-    alu-requires-11
-    alu-requires-12
-    returns-2
-    returns-3
-    returns-4
-    returns-5
-    returns-6
-    returns-7
-    returns-8
-    returns-9
-    returns-10
-    returns-11
-    returns-12
-    returns-13
-    returns-14
-    returns-15)
+    returns (λ c κs. search needs) (λ c κs. search needs) (λ c κs. search needs) (λ c κs. search needs)
+    (λ c κs. search needs) (λ c κs. search needs) (λ c κs. search needs) (λ c κs. search needs)
+    (λ c κs. search needs) (λ c κs. search needs) (λ c κs. search needs) (λ c κs. search needs)
+    (λ c κs. search needs) returns-2 returns-3 returns-4 returns-5 returns-6 returns-7 returns-8 returns-9
+    returns-10 returns-11 returns-12 returns-13 returns-14 returns-15)

@@ -1,18 +1,14 @@
+-- `branch` takes the second operand by bit 3.
+-- Assumes nothing.
 use borrow.Author.Tests.{eq-eqb, ne-eqb}
 use Rattle.machine.specs.Instruction.{only, withOperand}
 use borrow.Author.Needs.{needs}
 use Rattle.machine.proofs.instruction.branch.Statement.{statement}
 use Rattle.machine.proofs.instruction.branch.Tie as tie
 
-extend16-requires : tie.Need-extend16-requires
-extend16-requires c κs = search needs
-
 returns : tie.Need-returns
 unfolding withOperand only
 returns c = rw (c .before .if1 .taken) (simp (ne-eqb _ _ (c .if2 .taken)))
-
-extend32-requires : tie.Need-extend32-requires
-extend32-requires c κs = search needs
 
 returns-2 : tie.Need-returns-2
 unfolding withOperand only
@@ -27,5 +23,4 @@ unfolding withOperand only
 returns-4 c = simp (ne-eqb _ _ (c .before .if1 .left), eq-eqb _ _ (c .if3 .left), c .before .before .extend16 .ensures)
 
 pub branch-spec : {M : Type 1} → statement M
-branch-spec =
-    tie.close (tie.spec extend16-requires returns extend32-requires returns-2 returns-3 returns-4)
+branch-spec = tie.close (tie.spec (λ c κs. search needs) returns (λ c κs. search needs) returns-2 returns-3 returns-4)

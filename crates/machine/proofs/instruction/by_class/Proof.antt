@@ -1,26 +1,10 @@
+-- `by_class`: an arm is a class.
+-- Assumes nothing.
 use borrow.Author.Tests.{ne-eqb}
 use Rattle.machine.specs.Instruction.{byClass}
 use borrow.Author.Needs.{needs}
 use Rattle.machine.proofs.instruction.by_class.Statement.{statement}
 use Rattle.machine.proofs.instruction.by_class.Tie as tie
-
-arithmetic-requires : tie.Need-arithmetic-requires
-arithmetic-requires c κs = search needs
-
-arithmetic-requires-2 : tie.Need-arithmetic-requires-2
-arithmetic-requires-2 c κs = search needs
-
-jump-requires : tie.Need-jump-requires
-jump-requires c κs = search needs
-
-load-requires : tie.Need-load-requires
-load-requires c κs = search needs
-
-store-of-imm-requires : tie.Need-store-of-imm-requires
-store-of-imm-requires c κs = search needs
-
-store-of-src-requires : tie.Need-store-of-src-requires
-store-of-src-requires c κs = search needs
 
 returns : tie.Need-returns
 unfolding byClass
@@ -63,16 +47,6 @@ pub by-class-spec : {M : Type 1} → statement M
 by-class-spec =
     tie.close
     (tie.spec
-    arithmetic-requires
-    arithmetic-requires-2
-    jump-requires
-    load-requires
-    store-of-imm-requires
-    store-of-src-requires
-    returns
-    returns-2
-    returns-3
-    returns-4
-    returns-5
-    returns-6
+    (λ c κs. search needs) (λ c κs. search needs) (λ c κs. search needs) (λ c κs. search needs)
+    (λ c κs. search needs) (λ c κs. search needs) returns returns-2 returns-3 returns-4 returns-5 returns-6
     returns-7)

@@ -1,3 +1,5 @@
+-- `decode`: too short for eight bytes, or the meaning of the fields of the word fetched.
+-- Assumes nothing.
 use Prim.Native.Nat.{_+_}
 use native.Mathlib.Omega.{arith}
 use lib.ListN.{length}
@@ -11,17 +13,8 @@ use Rattle.machine.proofs.instruction.decode.Tie as tie
 returns : tie.Need-returns
 returns c = let a = c .before .before .args in simp (lt-leb (a .i + 8) (length (a .m .now)) (omega arith))
 
-sub-if2 : tie.Need-sub-if2
-sub-if2 c = search needs
-
 returns-2 : tie.Need-returns-2
 returns-2 c = let a = c .before .before .before .args in simp (lt-leb (a .i + 8) (length (a .m .now)) (omega arith))
-
-fetch-requires : tie.Need-fetch-requires
-fetch-requires c κs = search needs
-
-meaning-requires : tie.Need-meaning-requires
-meaning-requires c κs = search needs
 
 returns-3 : tie.Need-returns-3
 unfolding decode
@@ -33,4 +26,6 @@ returns-3 c =
 
 pub decode-spec : {M : Type 1} → statement M
 decode-spec =
-    tie.close (tie.spec returns sub-if2 returns-2 fetch-requires meaning-requires returns-3)
+    tie.close
+    (tie.spec
+    returns (λ c. search needs) returns-2 (λ c κs. search needs) (λ c κs. search needs) returns-3)

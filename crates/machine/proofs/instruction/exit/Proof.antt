@@ -1,3 +1,5 @@
+-- `exit`: EXIT where its unused fields are 0.
+-- Assumes nothing.
 use Rattle.machine.specs.Instruction.{only}
 use Rattle.machine.proofs.instruction.exit.Statement.{statement}
 use Rattle.machine.proofs.instruction.exit.Tie as tie

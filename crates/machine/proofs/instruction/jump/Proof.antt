@@ -1,55 +1,18 @@
+-- `jump`: an arm is a line of the table of comparisons; where there is no arm there is no line.
+-- Assumes nothing.
 use borrow.Author.Tests.{ne-eqb}
 use Rattle.machine.specs.Instruction.{lookup, comparisons, jump}
 use borrow.Author.Needs.{needs}
 use Rattle.machine.proofs.instruction.jump.Statement.{statement}
 use Rattle.machine.proofs.instruction.jump.Tie as tie
 
-always-requires : tie.Need-always-requires
-always-requires c κs = search needs
-
 returns : tie.Need-returns
 unfolding jump
 returns c = rw (c .before .if1 .taken) (c .always .ensures)
 
-exit-requires : tie.Need-exit-requires
-exit-requires c κs = search needs
-
 returns-2 : tie.Need-returns-2
 unfolding jump
 returns-2 c = rw (c .before .if2 .taken) (c .exit .ensures)
-
-branch-requires : tie.Need-branch-requires
-branch-requires c κs = search needs
-
-branch-requires-2 : tie.Need-branch-requires-2
-branch-requires-2 c κs = search needs
-
-branch-requires-3 : tie.Need-branch-requires-3
-branch-requires-3 c κs = search needs
-
-branch-requires-4 : tie.Need-branch-requires-4
-branch-requires-4 c κs = search needs
-
-branch-requires-5 : tie.Need-branch-requires-5
-branch-requires-5 c κs = search needs
-
-branch-requires-6 : tie.Need-branch-requires-6
-branch-requires-6 c κs = search needs
-
-branch-requires-7 : tie.Need-branch-requires-7
-branch-requires-7 c κs = search needs
-
-branch-requires-8 : tie.Need-branch-requires-8
-branch-requires-8 c κs = search needs
-
-branch-requires-9 : tie.Need-branch-requires-9
-branch-requires-9 c κs = search needs
-
-branch-requires-10 : tie.Need-branch-requires-10
-branch-requires-10 c κs = search needs
-
-branch-requires-11 : tie.Need-branch-requires-11
-branch-requires-11 c κs = search needs
 
 returns-3 : tie.Need-returns-3
 unfolding jump lookup comparisons
@@ -140,30 +103,8 @@ pub jump-spec : {M : Type 1} → statement M
 jump-spec =
     tie.close
     (tie.spec
-    always-requires
-    returns
-    exit-requires
-    returns-2
-    branch-requires
-    branch-requires-2
-    branch-requires-3
-    branch-requires-4
-    branch-requires-5
-    branch-requires-6
-    branch-requires-7
-    branch-requires-8
-    branch-requires-9
-    branch-requires-10
-    branch-requires-11
-    returns-3
-    returns-4
-    returns-5
-    returns-6
-    returns-7
-    returns-8
-    returns-9
-    returns-10
-    returns-11
-    returns-12
-    returns-13
-    returns-14)
+    (λ c κs. search needs) returns (λ c κs. search needs) returns-2 (λ c κs. search needs) (λ c κs. search needs)
+    (λ c κs. search needs) (λ c κs. search needs) (λ c κs. search needs) (λ c κs. search needs)
+    (λ c κs. search needs) (λ c κs. search needs) (λ c κs. search needs) (λ c κs. search needs)
+    (λ c κs. search needs) returns-3 returns-4 returns-5 returns-6 returns-7 returns-8 returns-9 returns-10
+    returns-11 returns-12 returns-13 returns-14)

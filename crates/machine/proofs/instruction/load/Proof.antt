@@ -1,20 +1,10 @@
+-- `load`: an arm is a line of the table of loads.
+-- Assumes nothing.
 use borrow.Author.Tests.{ne-eqb}
 use Rattle.machine.specs.Instruction.{lookup, loads, load}
 use borrow.Author.Needs.{needs}
 use Rattle.machine.proofs.instruction.load.Statement.{statement}
 use Rattle.machine.proofs.instruction.load.Tie as tie
-
-load-of-size-requires : tie.Need-load-of-size-requires
-load-of-size-requires c κs = search needs
-
-load-of-size-requires-2 : tie.Need-load-of-size-requires-2
-load-of-size-requires-2 c κs = search needs
-
-load-of-size-requires-3 : tie.Need-load-of-size-requires-3
-load-of-size-requires-3 c κs = search needs
-
-load-of-size-requires-4 : tie.Need-load-of-size-requires-4
-load-of-size-requires-4 c κs = search needs
 
 returns : tie.Need-returns
 unfolding load lookup loads
@@ -40,12 +30,5 @@ pub load-spec : {M : Type 1} → statement M
 load-spec =
     tie.close
     (tie.spec
-    load-of-size-requires
-    load-of-size-requires-2
-    load-of-size-requires-3
-    load-of-size-requires-4
-    returns
-    returns-2
-    returns-3
-    returns-4
-    returns-5)
+    (λ c κs. search needs) (λ c κs. search needs) (λ c κs. search needs) (λ c κs. search needs) returns returns-2
+    returns-3 returns-4 returns-5)

@@ -1,3 +1,5 @@
+-- `neg`: NEG where its unused fields are 0.
+-- Assumes nothing.
 use Rattle.machine.specs.Instruction.{only}
 use Rattle.machine.proofs.instruction.neg.Statement.{statement}
 use Rattle.machine.proofs.instruction.neg.Tie as tie

@@ -1,20 +1,10 @@
+-- `store_of_imm`: an arm is a line of the table of stores of imm.
+-- Assumes nothing.
 use borrow.Author.Tests.{ne-eqb}
 use Rattle.machine.specs.Instruction.{lookup, storesOfImm, storeOfImm}
 use borrow.Author.Needs.{needs}
 use Rattle.machine.proofs.instruction.store_of_imm.Statement.{statement}
 use Rattle.machine.proofs.instruction.store_of_imm.Tie as tie
-
-store-imm-of-size-requires : tie.Need-store-imm-of-size-requires
-store-imm-of-size-requires c κs = search needs
-
-store-imm-of-size-requires-2 : tie.Need-store-imm-of-size-requires-2
-store-imm-of-size-requires-2 c κs = search needs
-
-store-imm-of-size-requires-3 : tie.Need-store-imm-of-size-requires-3
-store-imm-of-size-requires-3 c κs = search needs
-
-store-imm-of-size-requires-4 : tie.Need-store-imm-of-size-requires-4
-store-imm-of-size-requires-4 c κs = search needs
 
 returns : tie.Need-returns
 unfolding storeOfImm lookup storesOfImm
@@ -40,12 +30,5 @@ pub store-of-imm-spec : {M : Type 1} → statement M
 store-of-imm-spec =
     tie.close
     (tie.spec
-    store-imm-of-size-requires
-    store-imm-of-size-requires-2
-    store-imm-of-size-requires-3
-    store-imm-of-size-requires-4
-    returns
-    returns-2
-    returns-3
-    returns-4
-    returns-5)
+    (λ c κs. search needs) (λ c κs. search needs) (λ c κs. search needs) (λ c κs. search needs) returns returns-2
+    returns-3 returns-4 returns-5)

@@ -1,20 +1,10 @@
+-- `store_of_src`: an arm is a line of the table of stores of src.
+-- Assumes nothing.
 use borrow.Author.Tests.{ne-eqb}
 use Rattle.machine.specs.Instruction.{lookup, storesOfSrc, storeOfSrc}
 use borrow.Author.Needs.{needs}
 use Rattle.machine.proofs.instruction.store_of_src.Statement.{statement}
 use Rattle.machine.proofs.instruction.store_of_src.Tie as tie
-
-store-src-of-size-requires : tie.Need-store-src-of-size-requires
-store-src-of-size-requires c κs = search needs
-
-store-src-of-size-requires-2 : tie.Need-store-src-of-size-requires-2
-store-src-of-size-requires-2 c κs = search needs
-
-store-src-of-size-requires-3 : tie.Need-store-src-of-size-requires-3
-store-src-of-size-requires-3 c κs = search needs
-
-store-src-of-size-requires-4 : tie.Need-store-src-of-size-requires-4
-store-src-of-size-requires-4 c κs = search needs
 
 returns : tie.Need-returns
 unfolding storeOfSrc lookup storesOfSrc
@@ -40,12 +30,5 @@ pub store-of-src-spec : {M : Type 1} → statement M
 store-of-src-spec =
     tie.close
     (tie.spec
-    store-src-of-size-requires
-    store-src-of-size-requires-2
-    store-src-of-size-requires-3
-    store-src-of-size-requires-4
-    returns
-    returns-2
-    returns-3
-    returns-4
-    returns-5)
+    (λ c κs. search needs) (λ c κs. search needs) (λ c κs. search needs) (λ c κs. search needs) returns returns-2
+    returns-3 returns-4 returns-5)

@@ -1,20 +1,10 @@
+-- `byte_count` is `bytes`, size by size.
+-- Assumes nothing.
 use mathlib.Core.Path.{refl}
 use Rattle.machine.specs.Machine.{bytes}
 use borrow.Author.Needs.{needs}
 use Rattle.machine.proofs.memory.byte_count.Statement.{statement}
 use Rattle.machine.proofs.memory.byte_count.Tie as tie
-
-enum-told : tie.Need-enum-told
-enum-told c = search needs
-
-enum-told-2 : tie.Need-enum-told-2
-enum-told-2 c = search needs
-
-enum-told-3 : tie.Need-enum-told-3
-enum-told-3 c = search needs
-
-enum-told-4 : tie.Need-enum-told-4
-enum-told-4 c = search needs
 
 returns : tie.Need-returns
 unfolding bytes
@@ -35,4 +25,6 @@ returns-4 c = rw (c .enum-told4 .given .1) (refl, search needs)
 pub byte-count-spec : {M : Type 1} → statement M
 byte-count-spec =
     tie.close
-    (tie.spec enum-told enum-told-2 enum-told-3 enum-told-4 returns returns-2 returns-3 returns-4)
+    (tie.spec
+    (λ c. search needs) (λ c. search needs) (λ c. search needs) (λ c. search needs) returns returns-2 returns-3
+    returns-4)

@@ -1,3 +1,5 @@
+-- `join`: x spells the bytes from k on. The measure is k.
+-- Assumes nothing.
 use mathlib.Core.Path.{_≡_}
 use Prim.Native.Nat.{_+_, _-_, _≤_}
 use native.Mathlib.Nat.{sub-self, sub-zero, add-zero}
@@ -18,23 +20,8 @@ loop-holds : tie.Need-loop-holds Inv-loop μ-loop
 unfolding readBytes
 loop-holds c = (search needs, rw (sub-self (c .before .args .n)))
 
-sub-k : tie.Need-sub-k Inv-loop μ-loop
-sub-k c = search needs
-
-add-wide : tie.Need-add-wide Inv-loop μ-loop
-add-wide c = search needs
-
-shared-slice-read-wide : tie.Need-shared-slice-read-wide Inv-loop μ-loop
-shared-slice-read-wide c = search needs
-
-wide-requires : tie.Need-wide-requires Inv-loop μ-loop
-wide-requires c κs = search needs
-
 add-x : tie.Need-add-x Inv-loop μ-loop
 add-x c = record { fits = rw (c .wide .ensures .0) (joins-below _ _ _ _ _ (λ j. c .before .before .before .before .shared-slice-known .given j .fits) (omega arith) (omega arith) (omega arith) (c .before .before .before .loop .inv .1)) }
-
-loop-less : tie.Need-loop-less Inv-loop μ-loop
-loop-less c = search needs
 
 loop-again : tie.Need-loop-again Inv-loop μ-loop
 loop-again c = (omega arith, rw (c .wide .ensures .0) (joins _ _ _ _ _ (λ j. c .before .before .before .before .shared-slice-known .given j .fits) (omega arith) (omega arith) (omega arith) (c .before .before .before .loop .inv .1)))
@@ -46,14 +33,5 @@ pub join-spec : {M : Type 1} → statement M
 join-spec =
     tie.close
     (tie.spec
-    Inv-loop
-    μ-loop
-    loop-holds
-    sub-k
-    add-wide
-    shared-slice-read-wide
-    wide-requires
-    add-x
-    loop-less
-    loop-again
-    returns)
+    Inv-loop μ-loop loop-holds (λ c. search needs) (λ c. search needs) (λ c. search needs) (λ c κs. search needs)
+    add-x (λ c. search needs) loop-again returns)

@@ -1,3 +1,5 @@
+-- `locate` answers where the bytes lie: `within`, without a sum that could wrap.
+-- Assumes nothing.
 use Prim.Native.Nat.{_+_}
 use native.Mathlib.Omega.{arith}
 use borrow.Author.Tests.{le-leb, lt-leb}

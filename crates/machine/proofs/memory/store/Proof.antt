@@ -1,26 +1,13 @@
+-- `store` writes where `locate` found a place, and nothing elsewhere.
+-- Assumes nothing.
 use mathlib.Core.Path.{refl, sym}
 use Rattle.machine.proofs.Access.{at-within, at-offset, at-fits, outside-not-within}
 use borrow.Author.Needs.{needs}
 use Rattle.machine.proofs.memory.store.Statement.{statement}
 use Rattle.machine.proofs.memory.store.Tie as tie
 
-byte-count-requires : tie.Need-byte-count-requires
-byte-count-requires c κs = search needs
-
-locate-requires : tie.Need-locate-requires
-locate-requires c κs = search needs
-
-enum-known-i : tie.Need-enum-known-i
-enum-known-i c = search needs
-
 put-requires : tie.Need-put-requires
 put-requires c κs = at-fits _ _ _ _ _ _ (c .before .before .before .before .before .byte-count .ensures .0) (c .before .before .before .before .locate .ensures) _ (c .before .before .i .given .1)
-
-enum-told : tie.Need-enum-told
-enum-told c = search needs
-
-same-length : tie.Need-same-length
-same-length c = search needs
 
 returns : tie.Need-returns
 returns c = (sym (at-within _ _ _ _ _ _ (c .before .before .before .before .before .before .before .before .byte-count .ensures .0) (c .before .before .before .before .before .before .before .locate .ensures) _ (c .before .before .before .before .before .i .given .1)), rw (← at-offset _ _ _ _ _ _ (c .before .before .before .before .before .before .before .before .byte-count .ensures .0) (c .before .before .before .before .before .before .before .locate .ensures) _ (c .before .before .before .before .before .i .given .1)) (c .before .before .put .ensures))
@@ -32,11 +19,5 @@ pub store-spec : {M : Type 1} → statement M
 store-spec =
     tie.close
     (tie.spec
-    byte-count-requires
-    locate-requires
-    enum-known-i
-    put-requires
-    enum-told
-    same-length
-    returns
-    returns-2)
+    (λ c κs. search needs) (λ c κs. search needs) (λ c. search needs) put-requires (λ c. search needs)
+    (λ c. search needs) returns returns-2)

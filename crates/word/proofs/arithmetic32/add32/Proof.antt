@@ -6,12 +6,9 @@ use Rattle.word.specs.Word.{alu, cut}
 use Rattle.word.proofs.arithmetic32.add32.Statement.{statement}
 use Rattle.word.proofs.arithmetic32.add32.Tie as tie
 
-add-result : tie.Need-add-result
-add-result c = search needs
-
 returns : tie.Need-returns
 unfolding alu cut
 returns c = refl
 
 pub add32-spec : {M : Type 1} → statement M
-add32-spec = tie.close (tie.spec add-result returns)
+add32-spec = tie.close (tie.spec (λ c. search needs) returns)

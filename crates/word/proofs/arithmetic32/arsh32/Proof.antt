@@ -10,12 +10,6 @@ use Rattle.word.proofs.Extend.{extend-below, cut-shift-extended}
 use Rattle.word.proofs.arithmetic32.arsh32.Statement.{statement}
 use Rattle.word.proofs.arithmetic32.arsh32.Tie as tie
 
-extend32-requires : tie.Need-extend32-requires
-extend32-requires c κs = search needs
-
-arsh64-requires : tie.Need-arsh64-requires
-arsh64-requires c κs = search needs
-
 returns : tie.Need-returns
 unfolding alu cut
 returns c =
@@ -24,4 +18,4 @@ returns c =
     (cut-shift-extended 32 (omega arith) (omega arith) (a .d) (a .s % 32))
 
 pub arsh32-spec : {M : Type 1} → statement M
-arsh32-spec = tie.close (tie.spec extend32-requires arsh64-requires returns)
+arsh32-spec = tie.close (tie.spec (λ c κs. search needs) (λ c κs. search needs) returns)

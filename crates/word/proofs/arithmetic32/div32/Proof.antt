@@ -6,9 +6,6 @@ use Rattle.word.specs.Word.{alu, cut}
 use Rattle.word.proofs.arithmetic32.div32.Statement.{statement}
 use Rattle.word.proofs.arithmetic32.div32.Tie as tie
 
-div-result : tie.Need-div-result
-div-result c = search needs
-
 returns : tie.Need-returns
 unfolding alu cut
 returns c = simp (eq-eqb _ _ (c .if1 .taken))
@@ -18,4 +15,4 @@ unfolding alu cut
 returns-2 c = simp (ne-eqb _ _ (c .if1 .left))
 
 pub div32-spec : {M : Type 1} → statement M
-div32-spec = tie.close (tie.spec div-result returns returns-2)
+div32-spec = tie.close (tie.spec (λ c. search needs) returns returns-2)

@@ -6,12 +6,9 @@ use Rattle.word.specs.Word.{alu, cut}
 use Rattle.word.proofs.arithmetic32.lsh32.Statement.{statement}
 use Rattle.word.proofs.arithmetic32.lsh32.Tie as tie
 
-shl-result : tie.Need-shl-result
-shl-result c = search needs
-
 returns : tie.Need-returns
 unfolding alu cut
 returns c = mod-mod-pow _ 32 32
 
 pub lsh32-spec : {M : Type 1} → statement M
-lsh32-spec = tie.close (tie.spec shl-result returns)
+lsh32-spec = tie.close (tie.spec (λ c. search needs) returns)

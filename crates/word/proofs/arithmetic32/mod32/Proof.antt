@@ -6,9 +6,6 @@ use Rattle.word.specs.Word.{alu, cut}
 use Rattle.word.proofs.arithmetic32.mod32.Statement.{statement}
 use Rattle.word.proofs.arithmetic32.mod32.Tie as tie
 
-rem-result : tie.Need-rem-result
-rem-result c = search needs
-
 returns : tie.Need-returns
 unfolding alu cut
 returns c = simp (eq-eqb _ _ (c .if1 .taken))
@@ -18,4 +15,4 @@ unfolding alu cut
 returns-2 c = simp (ne-eqb _ _ (c .if1 .left))
 
 pub mod32-spec : {M : Type 1} → statement M
-mod32-spec = tie.close (tie.spec rem-result returns returns-2)
+mod32-spec = tie.close (tie.spec (λ c. search needs) returns returns-2)

@@ -6,12 +6,9 @@ use Rattle.word.specs.Word.{alu, cut}
 use Rattle.word.proofs.arithmetic32.neg32.Statement.{statement}
 use Rattle.word.proofs.arithmetic32.neg32.Tie as tie
 
-sub-result : tie.Need-sub-result
-sub-result c = search needs
-
 returns : tie.Need-returns
 unfolding alu cut
 returns c = λ _. refl
 
 pub neg32-spec : {M : Type 1} → statement M
-neg32-spec = tie.close (tie.spec sub-result returns)
+neg32-spec = tie.close (tie.spec (λ c. search needs) returns)

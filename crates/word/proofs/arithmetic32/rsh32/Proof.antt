@@ -6,12 +6,9 @@ use Rattle.word.specs.Word.{alu, cut}
 use Rattle.word.proofs.arithmetic32.rsh32.Statement.{statement}
 use Rattle.word.proofs.arithmetic32.rsh32.Tie as tie
 
-shr-result : tie.Need-shr-result
-shr-result c = search needs
-
 returns : tie.Need-returns
 unfolding alu cut
 returns c = refl
 
 pub rsh32-spec : {M : Type 1} → statement M
-rsh32-spec = tie.close (tie.spec shr-result returns)
+rsh32-spec = tie.close (tie.spec (λ c. search needs) returns)

@@ -7,12 +7,9 @@ use Rattle.word.specs.Word.{alu, cut}
 use Rattle.word.proofs.arithmetic64.add64.Statement.{statement}
 use Rattle.word.proofs.arithmetic64.add64.Tie as tie
 
-wrapping-add-u64-requires : tie.Need-wrapping-add-u64-requires
-wrapping-add-u64-requires c κs = search needs
-
 returns : tie.Need-returns
 unfolding alu cut
 returns c = c .wrapping-add-u64 .ensures ∙ add-mod _ _ _
 
 pub add64-spec : {M : Type 1} → statement M
-add64-spec = tie.close (tie.spec wrapping-add-u64-requires returns)
+add64-spec = tie.close (tie.spec (λ c κs. search needs) returns)

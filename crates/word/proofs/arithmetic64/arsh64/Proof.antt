@@ -8,12 +8,6 @@ use Rattle.word.proofs.Cut.{cut-64}
 use Rattle.word.proofs.arithmetic64.arsh64.Statement.{statement}
 use Rattle.word.proofs.arithmetic64.arsh64.Tie as tie
 
-shr-result : tie.Need-shr-result
-shr-result c = search needs
-
-shr-result-2 : tie.Need-shr-result-2
-shr-result-2 c = search needs
-
 returns : tie.Need-returns
 unfolding alu shiftSigned
 returns c = simp (cut-64 {x = c .before .args .d} (omega arith), lt-ltb _ _ (c .if1 .taken))
@@ -23,4 +17,4 @@ unfolding alu shiftSigned
 returns-2 c = simp (cut-64 {x = c .before .args .d} (omega arith), le-ltb _ _ (c .if1 .left))
 
 pub arsh64-spec : {M : Type 1} → statement M
-arsh64-spec = tie.close (tie.spec shr-result shr-result-2 returns returns-2)
+arsh64-spec = tie.close (tie.spec (λ c. search needs) (λ c. search needs) returns returns-2)

@@ -8,9 +8,6 @@ use Rattle.word.proofs.Cut.{cut-64}
 use Rattle.word.proofs.arithmetic64.div64.Statement.{statement}
 use Rattle.word.proofs.arithmetic64.div64.Tie as tie
 
-div-result : tie.Need-div-result
-div-result c = search needs
-
 returns : tie.Need-returns
 unfolding alu
 returns c = simp (cut-64 {x = c .before .args .d} (omega arith), cut-64 {x = c .before .args .s} (omega arith), eq-eqb _ _ (c .if1 .taken))
@@ -20,4 +17,4 @@ unfolding alu
 returns-2 c = simp (cut-64 {x = c .before .args .d} (omega arith), cut-64 {x = c .before .args .s} (omega arith), ne-eqb _ _ (c .if1 .left))
 
 pub div64-spec : {M : Type 1} → statement M
-div64-spec = tie.close (tie.spec div-result returns returns-2)
+div64-spec = tie.close (tie.spec (λ c. search needs) returns returns-2)

@@ -7,12 +7,9 @@ use Rattle.word.proofs.Cut.{cut-64}
 use Rattle.word.proofs.arithmetic64.lsh64.Statement.{statement}
 use Rattle.word.proofs.arithmetic64.lsh64.Tie as tie
 
-shl-result : tie.Need-shl-result
-shl-result c = search needs
-
 returns : tie.Need-returns
 unfolding alu
 returns c = cc (cut-64 {x = c .args .d} (omega arith))
 
 pub lsh64-spec : {M : Type 1} → statement M
-lsh64-spec = tie.close (tie.spec shl-result returns)
+lsh64-spec = tie.close (tie.spec (λ c. search needs) returns)

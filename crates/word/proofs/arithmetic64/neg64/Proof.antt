@@ -6,12 +6,9 @@ use Rattle.word.specs.Word.{alu, cut}
 use Rattle.word.proofs.arithmetic64.neg64.Statement.{statement}
 use Rattle.word.proofs.arithmetic64.neg64.Tie as tie
 
-wrapping-sub-u64-requires : tie.Need-wrapping-sub-u64-requires
-wrapping-sub-u64-requires c κs = search needs
-
 returns : tie.Need-returns
 unfolding alu cut
 returns c = λ _. omega arith
 
 pub neg64-spec : {M : Type 1} → statement M
-neg64-spec = tie.close (tie.spec wrapping-sub-u64-requires returns)
+neg64-spec = tie.close (tie.spec (λ c κs. search needs) returns)

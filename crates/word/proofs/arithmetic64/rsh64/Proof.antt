@@ -7,12 +7,9 @@ use Rattle.word.proofs.Cut.{cut-64}
 use Rattle.word.proofs.arithmetic64.rsh64.Statement.{statement}
 use Rattle.word.proofs.arithmetic64.rsh64.Tie as tie
 
-shr-result : tie.Need-shr-result
-shr-result c = search needs
-
 returns : tie.Need-returns
 unfolding alu
 returns c = cc (cut-64 {x = c .args .d} (omega arith))
 
 pub rsh64-spec : {M : Type 1} → statement M
-rsh64-spec = tie.close (tie.spec shr-result returns)
+rsh64-spec = tie.close (tie.spec (λ c. search needs) returns)

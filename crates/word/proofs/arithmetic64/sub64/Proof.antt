@@ -7,12 +7,9 @@ use Rattle.word.proofs.Cut.{cut-64, difference}
 use Rattle.word.proofs.arithmetic64.sub64.Statement.{statement}
 use Rattle.word.proofs.arithmetic64.sub64.Tie as tie
 
-wrapping-sub-u64-requires : tie.Need-wrapping-sub-u64-requires
-wrapping-sub-u64-requires c κs = search needs
-
 returns : tie.Need-returns
 unfolding alu
 returns c = simp (cut-64 {x = c .before .args .d} (omega arith), cut-64 {x = c .before .args .s} (omega arith)) (difference _ _ _ (omega arith) (omega arith) (omega arith) (c .wrapping-sub-u64 .ensures))
 
 pub sub64-spec : {M : Type 1} → statement M
-sub64-spec = tie.close (tie.spec wrapping-sub-u64-requires returns)
+sub64-spec = tie.close (tie.spec (λ c κs. search needs) returns)

@@ -7,12 +7,9 @@ use Rattle.word.proofs.Cut.{cut-64}
 use Rattle.word.proofs.order64.moved64.Statement.{statement}
 use Rattle.word.proofs.order64.moved64.Tie as tie
 
-wrapping-add-u64-requires : tie.Need-wrapping-add-u64-requires
-wrapping-add-u64-requires c κs = search needs
-
 returns : tie.Need-returns
 unfolding moved
 returns c = cc (cut-64 {x = c .before .args .x} (omega arith))
 
 pub moved64-spec : {M : Type 1} → statement M
-moved64-spec = tie.close (tie.spec wrapping-add-u64-requires returns)
+moved64-spec = tie.close (tie.spec (λ c κs. search needs) returns)
