@@ -12,10 +12,10 @@ use Rattle.machine.specs.declared.memory.Loaded.{Loaded}
 use Rattle.machine.specs.declared.memory.Loaded.the-variants.{Value, Nowhere}
 use Rattle.machine.specs.Machine.{World, State, After, goes, ends, faults, Done, put, jumped, bytes, address, within, afterLoad, afterStore}
 use Rattle.machine.specs.Machine.{next as following}
-use Rattle.dispatch.specs.declared.commit.Next.{Next}
-use Rattle.dispatch.specs.declared.commit.Next.the-variants.{Go, Exit, Stop}
-use Rattle.dispatch.specs.declared.commit.Early.{Early}
-use Rattle.dispatch.specs.declared.commit.Early.the-variants.{Because, Nothing}
+use Rattle.dispatch.specs.declared.answer.Next.{Next}
+use Rattle.dispatch.specs.declared.answer.Next.the-variants.{Go, Exit, Stop}
+use Rattle.dispatch.specs.declared.answer.Early.{Early}
+use Rattle.dispatch.specs.declared.answer.Early.the-variants.{Because, Nothing}
 use Rattle.dispatch.specs.Represent.{isSet, stateOf, comes, Leads, guarded}
 
 -- an answer that leads to one thing leads to whatever equals it

@@ -21,8 +21,8 @@ use Rattle.machine.specs.Instruction.{Fields, only, byClass, meaning, readsOper
 use Rattle.machine.specs.Machine.{World, State, After, goes, ends, faults, Content, Unset, Holds, content, held, value, operandValue, put, jumped, bits, bytes, address, loaded, afterLoad, afterStore, effect, isNoInstruction, names10, isUnset, anyUnset, obey}
 use Rattle.machine.specs.declared.outcome.Cause.the-variants.{BadCode}
 use Rattle.machine.proofs.Opcodes.{fields-of-opcode, opcode-suffices}
-use Rattle.dispatch.specs.declared.commit.Next.{Next}
-use Rattle.dispatch.specs.declared.commit.Next.the-variants.{Stop}
+use Rattle.dispatch.specs.declared.answer.Next.{Next}
+use Rattle.dispatch.specs.declared.answer.Next.the-variants.{Stop}
 use Rattle.dispatch.specs.Represent.{isSet, contentOf, stateOf, Leads, guarded}
 use Rattle.dispatch.proofs.Registers.{content-is, value-is}
 use Rattle.dispatch.proofs.Answers.{leads-to, leads-fault, not-unset, first-set, second-set}

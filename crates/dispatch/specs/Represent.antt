@@ -11,9 +11,9 @@ use Rattle.machine.specs.declared.outcome.Cause.the-variants as cause
 use Rattle.machine.specs.declared.outcome.Outcome.the-variants.{Verdict, Fault}
 use Rattle.machine.specs.Machine.{Content, Unset, Holds, State, After, goes, ends, faults, Done}
 use Rattle.machine.specs.Machine.{next as following}
-use Rattle.dispatch.specs.declared.commit.Next.{Next}
-use Rattle.dispatch.specs.declared.commit.Next.the-variants.{Go, Stop}
-use Rattle.dispatch.specs.declared.commit.Next.the-variants as next
+use Rattle.dispatch.specs.declared.answer.Next.{Next}
+use Rattle.dispatch.specs.declared.answer.Next.the-variants.{Go, Stop}
+use Rattle.dispatch.specs.declared.answer.Next.the-variants as next
 
 -- register r is set where bit r of the mask live is
 unfoldable pub isSet : ℕ → ℕ → Bool
@@ -47,6 +47,24 @@ pub record Leads (r : Next) (numbers : List ℕ) (stack : List ℕ) (t : State) 
 unfoldable pub guarded : Bool → Bool → Bool → After → After
 guarded fits writes10 unset after =
     cond fits (cond writes10 (faults cause.WriteR10) (cond unset (faults cause.Unset) after)) (faults cause.BadCode)
+
+-- the answer r leads on to what `after` makes of the state, which the code keeps in these numbers, this mask and this index; ′ marks
+-- what it left
+abbrev pub LeadsOn : Next → List ℕ → List ℕ → List ℕ → List ℕ → ℕ → ℕ → (State → After) → Type 0
+LeadsOn r numbers numbers′ stack stack′ live index after =
+    Leads r numbers′ stack′ (stateOf numbers live stack index) (after (stateOf numbers live stack index))
+
+-- it does so whatever the stack is, of which it sees nothing
+abbrev pub Puts : Next → List ℕ → List ℕ → ℕ → ℕ → (State → After) → Type 0
+Puts r numbers numbers′ live index after = (stack : List ℕ) → LeadsOn r numbers numbers′ stack stack live index after
+
+-- whatever the numbers are
+abbrev pub Stores : Next → List ℕ → List ℕ → ℕ → ℕ → (State → After) → Type 0
+Stores r stack stack′ live index after = (numbers : List ℕ) → length numbers ≡ 11 → LeadsOn r numbers numbers stack stack′ live index after
+
+-- whatever either is
+abbrev pub Turns : Next → ℕ → ℕ → (State → After) → Type 0
+Turns r live index after = (numbers stack : List ℕ) → length numbers ≡ 11 → LeadsOn r numbers numbers stack stack live index after
 
 -- dst is one of the registers, and the index one of a program
 pub record Named (dst index : ℕ) : Type 0 where

@@ -1,4 +1,7 @@
-// One instruction obeyed, as the machine's definition says. It stands alone because its check is the longest.
-// Assumes nothing.
-pub mod commit;
+// One instruction obeyed, as the machine's definition says: a function a format, an arm an opcode. It stands alone because its
+// check is the longest. Assumes nothing.
+pub mod answer;
+pub mod arithmetic;
+pub mod jumps;
+pub mod memory;
 pub mod obey;

@@ -5,20 +5,20 @@ ghost use Prim.Native.Nat.{ℕ, _≤_, _<_, _^_};
 ghost use lib.ListN.{length};
 ghost use Rattle.machine.specs.Instruction.{meaning};
 ghost use Rattle.machine.specs.Machine.{obey as obeyed};
-ghost use Rattle.dispatch.specs.Represent.{stateOf, Leads, Named};
-use crate::commit::Next;
-use crate::commit::exit;
-use crate::commit::jump_always;
-use crate::commit::jump_immediate;
-use crate::commit::jump_register;
-use crate::commit::load_into;
-use crate::commit::move_immediate;
-use crate::commit::move_register;
-use crate::commit::negate;
-use crate::commit::put_immediate;
-use crate::commit::put_register;
-use crate::commit::store_immediate;
-use crate::commit::store_register;
+ghost use Rattle.dispatch.specs.Represent.{LeadsOn, Named};
+use crate::answer::Next;
+use crate::arithmetic::move_immediate;
+use crate::arithmetic::move_register;
+use crate::arithmetic::negate;
+use crate::arithmetic::put_immediate;
+use crate::arithmetic::put_register;
+use crate::jumps::exit;
+use crate::jumps::jump_always;
+use crate::jumps::jump_immediate;
+use crate::jumps::jump_register;
+use crate::memory::load_into;
+use crate::memory::store_immediate;
+use crate::memory::store_register;
 use machine::instruction::Size;
 use machine::outcome::Cause;
 use word::arithmetic32::add32;
@@ -77,7 +77,7 @@ pub fn obey(
     requires { ⌜ length (now regs) ≡ 11 ⌝ }
     requires { ⌜ Named dst pc ⌝ }
     requires { ⌜ src ≤ 10 ⌝ }
-    ensures { λ r. ⌜ Leads r (now (regs .exit)) (now (stack .exit)) (stateOf (now (regs .entry)) live (now (stack .entry)) pc) (obeyed (record { rec = now (rec .entry); P = p; S = s }) (stateOf (now (regs .entry)) live (now (stack .entry)) pc) (meaning (record { opcode = op; dst = dst; src = src; off = off; imm = imm }))) ⌝ }
+    ensures { λ r. ⌜ LeadsOn r (now (regs .entry)) (now (regs .exit)) (now (stack .entry)) (now (stack .exit)) live pc (λ t. obeyed (record { rec = now (rec .entry); P = p; S = s }) t (meaning (record { opcode = op; dst = dst; src = src; off = off; imm = imm }))) ⌝ }
 {
     let i = dst as usize;
     let j = src as usize;

@@ -18,8 +18,8 @@ use Rattle.machine.specs.declared.outcome.Outcome.the-variants.{Verdict, Fault,
 use Rattle.machine.specs.Instruction.{Fields, fields, only, meaning, decode}
 use Rattle.machine.specs.Machine.{World, State, After, goes, ends, faults, Done, isNoInstruction, obey, step, runs, start, badProgram, badRecord, badStack, badAddress, overlap, refused, interpreted}
 use Rattle.machine.specs.Machine.{next as following}
-use Rattle.dispatch.specs.declared.commit.Next.{Next}
-use Rattle.dispatch.specs.declared.commit.Next.the-variants.{Go, Exit, Stop}
+use Rattle.dispatch.specs.declared.answer.Next.{Next}
+use Rattle.dispatch.specs.declared.answer.Next.the-variants.{Go, Exit, Stop}
 use Rattle.dispatch.specs.Represent.{isSet, contentOf, contents, stateOf, comes, Leads}
 
 -- ---- one step

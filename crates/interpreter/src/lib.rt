@@ -5,8 +5,8 @@ ghost use Prim.Native.Nat.{ℕ, _+_, _≤_, _<_, _^_};
 ghost use lib.ListN.{length, replicate};
 ghost use Rattle.machine.specs.Machine.{step as stepped, runs, start, badProgram, badAddress, refused, interpreted};
 ghost use Rattle.machine.specs.Machine.{overlap as overlapping};
-ghost use Rattle.dispatch.specs.Represent.{stateOf, Leads};
-use dispatch::commit::Next;
+ghost use Rattle.dispatch.specs.Represent.{LeadsOn};
+use dispatch::answer::Next;
 use dispatch::obey::obey;
 use machine::memory::fetch;
 use machine::outcome::Cause;
@@ -24,7 +24,7 @@ fn step(
     stack: &mut [u8],
 ) -> Next
     requires { ⌜ length (now regs) ≡ 11 ⌝ }
-    ensures { λ r. ⌜ Leads r (now (regs .exit)) (now (stack .exit)) (stateOf (now (regs .entry)) live (now (stack .entry)) pc) (stepped (now (program .entry)) (record { rec = now (rec .entry); P = p; S = s }) (stateOf (now (regs .entry)) live (now (stack .entry)) pc)) ⌝ }
+    ensures { λ r. ⌜ LeadsOn r (now (regs .entry)) (now (regs .exit)) (now (stack .entry)) (now (stack .exit)) live pc (λ t. stepped (now (program .entry)) (record { rec = now (rec .entry); P = p; S = s }) t) ⌝ }
 {
     if ((program.len() / 8) as u64) <= pc {
         return Next::Stop(Cause::OffEnd);

@@ -6,26 +6,19 @@ use Rattle.bench.specs.Answer.{answerOf}
 use borrow.Author.Needs.{needs}
 use Rattle.bench.proofs.bench_run.Statement.{statement}
 use Rattle.bench.proofs.bench_run.Tie as tie
-use Rattle.bench.proofs.bench_run.Reads as reads
-use Rattle.bench.proofs.bench_run.Lts as lts
-use Rattle.interpreter.proofs.interpret.Reads as interpret-reads
 
--- src/lib.rt:17:1
 returns : tie.Need-returns
 unfolding answerOf
 returns c = sym (ap answerOf (c .before .value .given .1)) ∙ ap (λ (d : Done). answerOf (d .outcome)) (c .before .before .before .before .before .interpret .ensures)
 
--- src/lib.rt:17:1
 returns-2 : tie.Need-returns-2
 unfolding answerOf
 returns-2 c = sym (ap answerOf (c .before .at .given .1)) ∙ ap (λ (d : Done). answerOf (d .outcome)) (c .before .before .before .before .before .interpret .ensures)
 
--- src/lib.rt:17:1
 returns-3 : tie.Need-returns-3
 unfolding answerOf
 returns-3 c = sym (ap answerOf (c .before .steps .given .1)) ∙ ap (λ (d : Done). answerOf (d .outcome)) (c .before .before .before .before .before .interpret .ensures)
 
--- src/lib.rt:17:1
 returns-4 : tie.Need-returns-4
 unfolding answerOf
 returns-4 c = sym (ap answerOf (c .enum-told .given .1)) ∙ ap (λ (d : Done). answerOf (d .outcome)) (c .before .before .before .before .interpret .ensures)

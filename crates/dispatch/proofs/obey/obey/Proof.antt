@@ -239,7 +239,7 @@ returns-51 c = always _ _ _ _ _ _ _ _ _ _ (c .before .before .before .before .be
 
 returns-52 : tie.Need-returns-52
 unfolding bits readsDst only lookup withOperand operations arithmetic comparisons jump loads storesOfImm storesOfSrc load storeOfImm storeOfSrc byClass
-returns-52 c = ending _ _ _ _ _ _ _ _ _ _ (c .before .before .before .before .before .before .pre .1 .0 .dst-named) (c .before .before .before .before .before .before .pre .1 .1) _ (c .before .before .match .keys52) refl (c .exit .ensures (c .before .before .before .before .before .before .args .regs .now) (c .before .before .before .before .before .before .args .stack .now) _ (c .before .before .before .before .before .before .pre .0))
+returns-52 c = ending _ _ _ _ _ _ _ _ _ _ (c .before .before .before .before .before .before .pre .1 .0 .dst-named) (c .before .before .before .before .before .before .pre .1 .1) _ (c .before .before .match .keys52) refl (c .exit .ensures _ (c .before .before .before .before .before .before .args .regs .now) (c .before .before .before .before .before .before .args .stack .now) (c .before .before .before .before .before .before .pre .0))
 
 returns-53 : tie.Need-returns-53
 unfolding bits readsDst only lookup withOperand operations arithmetic comparisons jump loads storesOfImm storesOfSrc load storeOfImm storeOfSrc byClass
@@ -347,35 +347,35 @@ returns-78 c = loading _ _ _ _ _ _ _ _ _ _ (c .before .before .before .before .b
 
 returns-79 : tie.Need-returns-79
 unfolding bits readsDst only lookup withOperand operations arithmetic comparisons jump loads storesOfImm storesOfSrc load storeOfImm storeOfSrc byClass
-returns-79 c = storing-immediate _ _ _ _ _ _ _ _ _ _ (c .before .before .before .before .before .before .before .before .before .pre .1 .0 .dst-named) (c .before .before .before .before .before .before .before .before .before .pre .1 .1) _ One _ (c .before .before .before .before .before .match .keys79) refl (c .before .before .before .before .before .before .extend32 .ensures) (c .before .before .store-immediate .ensures (c .before .before .before .before .before .before .before .before .before .args .regs .now) _ _ (c .before .before .before .before .before .before .before .before .before .pre .0))
+returns-79 c = storing-immediate _ _ _ _ _ _ _ _ _ _ (c .before .before .before .before .before .before .before .before .before .pre .1 .0 .dst-named) (c .before .before .before .before .before .before .before .before .before .pre .1 .1) _ One _ (c .before .before .before .before .before .match .keys79) refl (c .before .before .before .before .before .before .extend32 .ensures) (c .before .before .store-immediate .ensures _ _ (c .before .before .before .before .before .before .before .before .before .args .regs .now) (c .before .before .before .before .before .before .before .before .before .pre .0))
 
 returns-80 : tie.Need-returns-80
 unfolding bits readsDst only lookup withOperand operations arithmetic comparisons jump loads storesOfImm storesOfSrc load storeOfImm storeOfSrc byClass
-returns-80 c = storing-immediate _ _ _ _ _ _ _ _ _ _ (c .before .before .before .before .before .before .before .before .before .pre .1 .0 .dst-named) (c .before .before .before .before .before .before .before .before .before .pre .1 .1) _ Two _ (c .before .before .before .before .before .match .keys80) refl (c .before .before .before .before .before .before .extend32 .ensures) (c .before .before .store-immediate2 .ensures (c .before .before .before .before .before .before .before .before .before .args .regs .now) _ _ (c .before .before .before .before .before .before .before .before .before .pre .0))
+returns-80 c = storing-immediate _ _ _ _ _ _ _ _ _ _ (c .before .before .before .before .before .before .before .before .before .pre .1 .0 .dst-named) (c .before .before .before .before .before .before .before .before .before .pre .1 .1) _ Two _ (c .before .before .before .before .before .match .keys80) refl (c .before .before .before .before .before .before .extend32 .ensures) (c .before .before .store-immediate2 .ensures _ _ (c .before .before .before .before .before .before .before .before .before .args .regs .now) (c .before .before .before .before .before .before .before .before .before .pre .0))
 
 returns-81 : tie.Need-returns-81
 unfolding bits readsDst only lookup withOperand operations arithmetic comparisons jump loads storesOfImm storesOfSrc load storeOfImm storeOfSrc byClass
-returns-81 c = storing-immediate _ _ _ _ _ _ _ _ _ _ (c .before .before .before .before .before .before .before .before .before .pre .1 .0 .dst-named) (c .before .before .before .before .before .before .before .before .before .pre .1 .1) _ Four _ (c .before .before .before .before .before .match .keys81) refl (c .before .before .before .before .before .before .extend32 .ensures) (c .before .before .store-immediate3 .ensures (c .before .before .before .before .before .before .before .before .before .args .regs .now) _ _ (c .before .before .before .before .before .before .before .before .before .pre .0))
+returns-81 c = storing-immediate _ _ _ _ _ _ _ _ _ _ (c .before .before .before .before .before .before .before .before .before .pre .1 .0 .dst-named) (c .before .before .before .before .before .before .before .before .before .pre .1 .1) _ Four _ (c .before .before .before .before .before .match .keys81) refl (c .before .before .before .before .before .before .extend32 .ensures) (c .before .before .store-immediate3 .ensures _ _ (c .before .before .before .before .before .before .before .before .before .args .regs .now) (c .before .before .before .before .before .before .before .before .before .pre .0))
 
 returns-82 : tie.Need-returns-82
 unfolding bits readsDst only lookup withOperand operations arithmetic comparisons jump loads storesOfImm storesOfSrc load storeOfImm storeOfSrc byClass
-returns-82 c = storing-immediate _ _ _ _ _ _ _ _ _ _ (c .before .before .before .before .before .before .before .before .before .pre .1 .0 .dst-named) (c .before .before .before .before .before .before .before .before .before .pre .1 .1) _ Eight _ (c .before .before .before .before .before .match .keys82) refl (c .before .before .before .before .before .before .extend32 .ensures) (c .before .before .store-immediate4 .ensures (c .before .before .before .before .before .before .before .before .before .args .regs .now) _ _ (c .before .before .before .before .before .before .before .before .before .pre .0))
+returns-82 c = storing-immediate _ _ _ _ _ _ _ _ _ _ (c .before .before .before .before .before .before .before .before .before .pre .1 .0 .dst-named) (c .before .before .before .before .before .before .before .before .before .pre .1 .1) _ Eight _ (c .before .before .before .before .before .match .keys82) refl (c .before .before .before .before .before .before .extend32 .ensures) (c .before .before .store-immediate4 .ensures _ _ (c .before .before .before .before .before .before .before .before .before .args .regs .now) (c .before .before .before .before .before .before .before .before .before .pre .0))
 
 returns-83 : tie.Need-returns-83
 unfolding bits readsDst only lookup withOperand operations arithmetic comparisons jump loads storesOfImm storesOfSrc load storeOfImm storeOfSrc byClass
-returns-83 c = storing-register _ _ _ _ _ _ _ _ _ _ (c .before .before .before .before .before .before .before .before .before .before .pre .1 .0 .dst-named) (c .before .before .before .before .before .before .before .before .before .before .pre .1 .1) _ One (c .before .before .before .before .before .before .match .keys83) refl (c .before .before .store-register .ensures (c .before .before .before .before .before .before .before .before .before .before .args .regs .now) _ _ (c .before .before .before .before .before .before .before .before .before .before .pre .0))
+returns-83 c = storing-register _ _ _ _ _ _ _ _ _ _ (c .before .before .before .before .before .before .before .before .before .before .pre .1 .0 .dst-named) (c .before .before .before .before .before .before .before .before .before .before .pre .1 .1) _ One (c .before .before .before .before .before .before .match .keys83) refl (c .before .before .store-register .ensures _ _ (c .before .before .before .before .before .before .before .before .before .before .args .regs .now) (c .before .before .before .before .before .before .before .before .before .before .pre .0))
 
 returns-84 : tie.Need-returns-84
 unfolding bits readsDst only lookup withOperand operations arithmetic comparisons jump loads storesOfImm storesOfSrc load storeOfImm storeOfSrc byClass
-returns-84 c = storing-register _ _ _ _ _ _ _ _ _ _ (c .before .before .before .before .before .before .before .before .before .before .pre .1 .0 .dst-named) (c .before .before .before .before .before .before .before .before .before .before .pre .1 .1) _ Two (c .before .before .before .before .before .before .match .keys84) refl (c .before .before .store-register2 .ensures (c .before .before .before .before .before .before .before .before .before .before .args .regs .now) _ _ (c .before .before .before .before .before .before .before .before .before .before .pre .0))
+returns-84 c = storing-register _ _ _ _ _ _ _ _ _ _ (c .before .before .before .before .before .before .before .before .before .before .pre .1 .0 .dst-named) (c .before .before .before .before .before .before .before .before .before .before .pre .1 .1) _ Two (c .before .before .before .before .before .before .match .keys84) refl (c .before .before .store-register2 .ensures _ _ (c .before .before .before .before .before .before .before .before .before .before .args .regs .now) (c .before .before .before .before .before .before .before .before .before .before .pre .0))
 
 returns-85 : tie.Need-returns-85
 unfolding bits readsDst only lookup withOperand operations arithmetic comparisons jump loads storesOfImm storesOfSrc load storeOfImm storeOfSrc byClass
-returns-85 c = storing-register _ _ _ _ _ _ _ _ _ _ (c .before .before .before .before .before .before .before .before .before .before .pre .1 .0 .dst-named) (c .before .before .before .before .before .before .before .before .before .before .pre .1 .1) _ Four (c .before .before .before .before .before .before .match .keys85) refl (c .before .before .store-register3 .ensures (c .before .before .before .before .before .before .before .before .before .before .args .regs .now) _ _ (c .before .before .before .before .before .before .before .before .before .before .pre .0))
+returns-85 c = storing-register _ _ _ _ _ _ _ _ _ _ (c .before .before .before .before .before .before .before .before .before .before .pre .1 .0 .dst-named) (c .before .before .before .before .before .before .before .before .before .before .pre .1 .1) _ Four (c .before .before .before .before .before .before .match .keys85) refl (c .before .before .store-register3 .ensures _ _ (c .before .before .before .before .before .before .before .before .before .before .args .regs .now) (c .before .before .before .before .before .before .before .before .before .before .pre .0))
 
 returns-86 : tie.Need-returns-86
 unfolding bits readsDst only lookup withOperand operations arithmetic comparisons jump loads storesOfImm storesOfSrc load storeOfImm storeOfSrc byClass
-returns-86 c = storing-register _ _ _ _ _ _ _ _ _ _ (c .before .before .before .before .before .before .before .before .before .before .pre .1 .0 .dst-named) (c .before .before .before .before .before .before .before .before .before .before .pre .1 .1) _ Eight (c .before .before .before .before .before .before .match .keys86) refl (c .before .before .store-register4 .ensures (c .before .before .before .before .before .before .before .before .before .before .args .regs .now) _ _ (c .before .before .before .before .before .before .before .before .before .before .pre .0))
+returns-86 c = storing-register _ _ _ _ _ _ _ _ _ _ (c .before .before .before .before .before .before .before .before .before .before .pre .1 .0 .dst-named) (c .before .before .before .before .before .before .before .before .before .before .pre .1 .1) _ Eight (c .before .before .before .before .before .before .match .keys86) refl (c .before .before .store-register4 .ensures _ _ (c .before .before .before .before .before .before .before .before .before .before .args .regs .now) (c .before .before .before .before .before .before .before .before .before .before .pre .0))
 
 returns-87 : tie.Need-returns-87
 unfolding undecoded
