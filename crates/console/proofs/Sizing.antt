@@ -65,7 +65,3 @@ module _ (line s : List ℕ) (start end start2 end2 q : ℕ) (a : Next line s st
         room = fit-two x y n k (u .room) (v .room);
         held = kept-two x y (word s) (word (after s)) program rec (rw (a .here) at (u .held)) (rw w at (v .held));
       })
-
--- the sizes, where the rest of the line is told by another name
-pub filled-at : (t u program rec : List ℕ) (n k : ℕ) (r : Sizes) → t ≡ u → Filled t program rec n k r → r ≡ sizesOf u n k
-filled-at t u program rec n k r e f = rw e at (f .count)

@@ -1,15 +1,18 @@
 -- What a request line is answered with.
 -- Assumes nothing.
-use mathlib.Core.Bool.{Bool, true, false, _&&_}
-use mathlib.Core.List.{List, [], _∷_}
-use mathlib.Core.Path.{_≡_}
+use mathlib.Core.Bool.{Bool, cond, _&&_}
+use mathlib.Core.List.{List, _++_}
 use Prim.Native.Nat.{ℕ}
 use lib.ListN.{length}
-use lib.Dec.{leb}
+use lib.Dec.{leb, eqb}
 use Rattle.machine.specs.declared.outcome.Cause.{Cause}
 use Rattle.machine.specs.declared.outcome.Cause.the-variants.{BadCode, OffEnd, Unset, WriteR10, BadAccess}
-use Rattle.machine.specs.declared.outcome.Outcome.the-variants.{Refused}
+use Rattle.machine.specs.declared.outcome.Outcome.{Outcome}
+use Rattle.machine.specs.declared.outcome.Outcome.the-variants.{Verdict, Fault, Budget, Refused}
+use Rattle.machine.specs.Machine.{interpreted}
 use Rattle.text.specs.Scan.{equal}
+use Rattle.text.specs.Hex.{bytesOf}
+use Rattle.text.specs.Buffer.{chars, decimal}
 use Rattle.console.specs.declared.request.Numbers.{Numbers}
 use Rattle.console.specs.declared.request.Numbers.the-variants as all
 use Rattle.console.specs.declared.request.Sizes.{Sizes}
@@ -25,20 +28,40 @@ numberOf Unset = 3
 numberOf WriteR10 = 4
 numberOf BadAccess = 5
 
--- the reply to a run whose numbers and bytes were read: bad where some are not, refused where R is not the record's length
-abbrev pub Due : Numbers → Sizes → Reply → Type 0
-Due all.Not b r = r ≡ Bad
-Due (all.Are size p s budget) both.Not r = r ≡ Bad
-Due (all.Are size p s budget) (both.Are n k) r = (size ≡ k → ⊥) → r ≡ Ran Refused
+-- the reply to a run by what was read of it: bad where some of it is not, refused where R is not the record's length,
+-- and what the machine comes to elsewhere
+unfoldable pub due : Numbers → Sizes → List ℕ → List ℕ → List ℕ → Reply
+due all.Not b program rec stack = Bad
+due (all.Are R P S budget) both.Not program rec stack = Bad
+due (all.Are R P S budget) (both.Are n k) program rec stack =
+    Ran (cond (eqb R (length rec)) ((interpreted program rec P S stack budget) .outcome) Refused)
 
-pub record Replied (a : Numbers) (b : Sizes) (r : Reply) : Type 0 where
-  pub reply : Due a b r
+-- R P S BUDGET PROGRAM RECORD at the start of s, with room for a program of n bytes and a record of k
+unfoldable pub runReply : List ℕ → ℕ → ℕ → List ℕ → Reply
+runReply s n k stack =
+    let t : List ℕ = after (after (after (after s))) in
+    due (numbersOf s) (sizesOf t n k) (bytesOf (word t)) (bytesOf (word (after t))) stack
 
 -- the line is a run of at most 70,000 characters
 unfoldable pub isRun : List ℕ → Bool
-isRun line = leb (length line) 70000 && equal (word line) (114 ∷ 117 ∷ 110 ∷ [])
+isRun line = leb (length line) 70000 && equal (word line) (chars "run")
 
--- the reply to a line, with room for a program of n bytes and a record of k: bad where it is no run
-pub record ReplyTo (line : List ℕ) (n k : ℕ) (r : Reply) : Type 0 where
-  pub run : isRun line ≡ true → Replied (numbersOf (after line)) (sizesOf (after (after (after (after (after line))))) n k) r
-  pub other : isRun line ≡ false → r ≡ Bad
+-- the reply to a line, with room for a program of n bytes and a record of k, and this stack: bad where it is no run
+unfoldable pub replyTo : List ℕ → ℕ → ℕ → List ℕ → Reply
+replyTo line n k stack = cond (isRun line) (runReply (after line) n k stack) Bad
+
+-- ---- what is written
+
+unfoldable pub outcomeText : Outcome → List ℕ
+outcomeText (Verdict value steps) = chars "verdict " ++ decimal value ++ chars " " ++ decimal steps
+outcomeText (Fault cause at steps) = chars "fault " ++ decimal (numberOf cause) ++ chars " " ++ decimal steps
+outcomeText (Budget steps) = chars "budget " ++ decimal steps
+outcomeText Refused = chars "refused"
+
+unfoldable pub replyText : Reply → List ℕ
+replyText (Ran o) = outcomeText o
+replyText Bad = chars "error"
+
+-- the answer, with its line end
+unfoldable pub answerText : Reply → List ℕ
+answerText r = replyText r ++ chars "\n"

@@ -8,7 +8,7 @@ use lib.ListN.{length, take, drop}
 use lib.Dec.{eqb}
 use Rattle.text.specs.Scan.{other, leading}
 use Rattle.text.specs.Number.{number, numeral}
-use Rattle.text.specs.Hex.{spelled, Pairs}
+use Rattle.text.specs.Hex.{spelled, bytesOf}
 use Rattle.text.specs.declared.number.Number.{Number}
 use Rattle.text.specs.declared.number.Number.the-variants as a-number
 use Rattle.text.specs.declared.hex.Bytes.{Bytes}
@@ -77,9 +77,9 @@ abbrev pub Fit : Sizes → ℕ → ℕ → Type 0
 Fit (both.Are a b) n k = (a ≤ n) × (b ≤ k)
 Fit both.Not n k = Unit {0}
 
--- the bytes that the words v and w spell are a program and a record of these sizes
+-- so many bytes of the program and of the record are those that the words v and w spell
 abbrev pub Kept : List ℕ → List ℕ → List ℕ → List ℕ → Sizes → Type 0
-Kept v w program rec (both.Are a b) = Pairs v program a × Pairs w rec b
+Kept v w program rec (both.Are a b) = (take a program ≡ bytesOf v) × (take b rec ≡ bytesOf w)
 Kept v w program rec both.Not = Unit {0}
 
 -- the answer r on PROGRAM RECORD at the start of s, and the bytes as they are left in a program of n and a record of k

@@ -1,10 +1,12 @@
 // The answer to a request line.
 // Assumes nothing.
+ghost use mathlib.Core.List.{_++_};
 ghost use mathlib.Core.Path.{_≡_};
 ghost use Prim.Native.Nat.{_≤_};
-ghost use lib.ListN.{length, drop};
-ghost use Rattle.console.specs.Request.{after, numbersOf, sizesOf};
-ghost use Rattle.console.specs.Answer.{Replied, ReplyTo, numberOf};
+ghost use lib.ListN.{length, take, drop};
+ghost use Rattle.machine.specs.Machine.{interpreted};
+ghost use Rattle.text.specs.Buffer.{Put, chars, decimal};
+ghost use Rattle.console.specs.Answer.{runReply, replyTo, numberOf, outcomeText, replyText, answerText};
 use crate::request::Numbers;
 use crate::request::Sizes;
 use crate::request::is_word;
@@ -39,6 +41,7 @@ fn execute(
     budget: u64,
 ) -> Outcome
     requires { ⌜ (n ≤ length (now program)) × (k ≤ length (now rec)) ⌝ }
+    ensures { λ r. ⌜ r ≡ (interpreted (take n (now (program .entry))) (take k (now (rec .entry))) p s (now (stack .entry)) budget) .outcome ⌝ }
 {
     interpret(&program[0..n], &rec[0..k], p, s, stack, budget)
 }
@@ -46,7 +49,7 @@ fn execute(
 // R P S BUDGET PROGRAM RECORD from `from` on. A record of another length than R is refused before the machine sees it.
 fn run(line: &[u8], from: usize, program: &mut [u8], rec: &mut [u8], stack: &mut [u8]) -> Reply
     requires { ⌜ from ≤ length (now line) ⌝ }
-    ensures { λ r. ⌜ Replied (numbersOf (drop from (now (line .entry)))) (sizesOf (after (after (after (after (drop from (now (line .entry))))))) (length (now (program .entry))) (length (now (rec .entry)))) r ⌝ }
+    ensures { λ r. ⌜ r ≡ runReply (drop from (now (line .entry))) (length (now (program .entry))) (length (now (rec .entry))) (now (stack .entry)) ⌝ }
 {
     let numbers = read_numbers(line, from);
     let at = past_four(line, from);
@@ -65,7 +68,7 @@ fn run(line: &[u8], from: usize, program: &mut [u8], rec: &mut [u8], stack: &mut
 
 // The first word is the verb, and each verb has its function.
 fn reply_to(line: &[u8], program: &mut [u8], rec: &mut [u8], stack: &mut [u8]) -> Reply
-    ensures { λ r. ⌜ ReplyTo (now (line .entry)) (length (now (program .entry))) (length (now (rec .entry))) r ⌝ }
+    ensures { λ r. ⌜ r ≡ replyTo (now (line .entry)) (length (now (program .entry))) (length (now (rec .entry))) (now (stack .entry)) ⌝ }
 {
     if line.len() > LONGEST {
         return Reply::Bad;
@@ -92,8 +95,7 @@ fn number_of(cause: Cause) -> u64
 
 // A word and two numbers.
 fn put_pair(out: &mut [u8], at: usize, word: &[u8], a: u64, b: u64) -> usize
-    requires { ⌜ at ≤ length (now out) ⌝ }
-    ensures { λ r. ⌜ (at ≤ r) × (r ≤ length (now (out .entry))) ⌝ }
+    ensures { λ r. ⌜ Put (now (out .entry)) at (now (word .entry) ++ decimal a ++ chars " " ++ decimal b) (now (out .exit)) r ⌝ }
 {
     let i = put_text(out, at, word);
     let j = put_decimal(out, i, a);
@@ -102,8 +104,7 @@ fn put_pair(out: &mut [u8], at: usize, word: &[u8], a: u64, b: u64) -> usize
 }
 
 fn put_outcome(out: &mut [u8], at: usize, outcome: Outcome) -> usize
-    requires { ⌜ at ≤ length (now out) ⌝ }
-    ensures { λ r. ⌜ (at ≤ r) × (r ≤ length (now (out .entry))) ⌝ }
+    ensures { λ r. ⌜ Put (now (out .entry)) at (outcomeText outcome) (now (out .exit)) r ⌝ }
 {
     match outcome {
         Outcome::Verdict { value, steps } => put_pair(out, at, b"verdict ", value, steps),
@@ -121,8 +122,7 @@ fn put_outcome(out: &mut [u8], at: usize, outcome: Outcome) -> usize
 }
 
 fn put_reply(out: &mut [u8], at: usize, reply: Reply) -> usize
-    requires { ⌜ at ≤ length (now out) ⌝ }
-    ensures { λ r. ⌜ (at ≤ r) × (r ≤ length (now (out .entry))) ⌝ }
+    ensures { λ r. ⌜ Put (now (out .entry)) at (replyText reply) (now (out .exit)) r ⌝ }
 {
     match reply {
         Reply::Ran(outcome) => put_outcome(out, at, outcome),
@@ -130,7 +130,8 @@ fn put_reply(out: &mut [u8], at: usize, reply: Reply) -> usize
     }
 }
 
-// Puts the answer to a line from `at` on, with its line end: at most 50 characters, cut where `out` ends.
+// Puts the answer to a line from `at` on, with its line end: at most 50 characters, cut where `out` ends. The answer is the
+// index after it; where `at` is beyond `out`, nothing is put, and it is `at`.
 pub fn respond(
     line: &[u8],
     program: &mut [u8],
@@ -139,8 +140,7 @@ pub fn respond(
     out: &mut [u8],
     at: usize,
 ) -> usize
-    requires { ⌜ at ≤ length (now out) ⌝ }
-    ensures { λ r. ⌜ (at ≤ r) × (r ≤ length (now (out .entry))) ⌝ }
+    ensures { λ r. ⌜ Put (now (out .entry)) at (answerText (replyTo (now (line .entry)) (length (now (program .entry))) (length (now (rec .entry))) (now (stack .entry)))) (now (out .exit)) r ⌝ }
 {
     let reply = reply_to(line, program, rec, stack);
     let end = put_reply(out, at, reply);

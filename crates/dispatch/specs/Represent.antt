@@ -43,7 +43,7 @@ pub record Leads (r : Next) (numbers : List ℕ) (stack : List ℕ) (t : State) 
   pub leads : (more : ℕ → State → Done) (n : ℕ) → comes more n (t .index) r numbers stack ≡ following more n t after
   pub eleven : length numbers ≡ 11
 
--- the tests before an effect, in the order of the document: the unused fields are 0, r10 is not written, what is read is set
+-- the tests before an effect, in the order of docs/MACHINE.md, section 5: the unused fields are 0, r10 is not written, what is read is set
 unfoldable pub guarded : Bool → Bool → Bool → After → After
 guarded fits writes10 unset after =
     cond fits (cond writes10 (faults cause.WriteR10) (cond unset (faults cause.Unset) after)) (faults cause.BadCode)

@@ -19,7 +19,7 @@ pub enum Early {
     Nothing,
 }
 
-// The tests before an effect, in the order of the document.
+// The tests before an effect, in the order of docs/MACHINE.md, section 5.
 pub fn tested(fits: bool, writes10: bool, unset: bool) -> Early
     ensures { λ r. ⌜ r ≡ cond fits (cond writes10 (Early.Because Cause.WriteR10) (cond unset (Early.Because Cause.Unset) Early.Nothing)) (Early.Because Cause.BadCode) ⌝ }
 {

@@ -111,7 +111,7 @@ fn overlap(p: u64, r: usize, s: u64) -> bool
     (0 < r) & (p < s + 512) & (s < p + (r as u64))
 }
 
-// Whether document 01 lets such a run begin, by the lengths and the addresses.
+// Whether a length or an address breaks the rule of docs/MACHINE.md, section 5.
 fn refuses(program: usize, rec: usize, stack: usize, p: u64, s: u64) -> bool
     ensures { λ b. ⌜ b ≡ refused program rec stack p s ⌝ }
 {

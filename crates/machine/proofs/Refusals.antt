@@ -13,7 +13,7 @@ use Rattle.machine.specs.declared.outcome.Outcome.{Outcome}
 use Rattle.machine.specs.declared.outcome.Outcome.the-variants.{Verdict, Fault, Budget, Refused}
 use Rattle.machine.specs.Machine.{World, State, After, goes, ends, faults, Done, step, next, runs, start, badProgram, badRecord, badStack, badAddress, overlap, refused, interpreted}
 
--- the rules of document 01, section 5, each with what breaks it; the two ranges overlap where an address lies in both
+-- the rules of docs/MACHINE.md, section 5, each with what breaks it; the two ranges overlap where an address lies in both
 pub data Broken (program rec stack : List ℕ) (P S : ℕ) : Type 0 where
   program-empty : length program ≡ 0 → Broken program rec stack P S
   program-ragged : length program % 8 ≢ 0 → Broken program rec stack P S

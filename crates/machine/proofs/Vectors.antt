@@ -1,5 +1,5 @@
--- The worked programs of document 01, section 6, as theorems by computation about the definitions.
--- A program is written as in the document, eight bytes a numeral. Assumes nothing.
+-- The worked programs of docs/MACHINE.md, section 6, as theorems by computation about the definitions.
+-- A program is written as there, eight bytes a numeral. Assumes nothing.
 use mathlib.Core.Path.{_≡_, refl}
 use mathlib.Core.Bool.{cond}
 use mathlib.Core.List.{List, [], _∷_, _++_}
@@ -13,7 +13,7 @@ use Rattle.machine.specs.declared.outcome.Outcome.the-variants.{Verdict,
 use Rattle.machine.specs.Instruction.{fields, only, lookup, withOperand, operations, arithmetic, comparisons, jump, loads, storesOfImm, storesOfSrc, load, storeOfImm, storeOfSrc, byClass, meaning, decode, readsOperand, readsDst, reads, writes}
 use Rattle.machine.specs.Machine.{content, held, value, operandValue, put, jumped, bits, bytes, address, within, loaded, afterLoad, afterStore, effect, isNoInstruction, names10, isUnset, anyUnset, obey, step, next, runs, start, badProgram, badRecord, badStack, badAddress, overlap, refused, interpreted}
 
--- the eight bytes of a numeral as the document prints them, highest digits first
+-- the eight bytes of a numeral as they are printed, highest digits first
 eight : ℕ → List ℕ
 eight n =
     n / 256 ^ 7 ∷ n / 256 ^ 6 % 256 ∷ n / 256 ^ 5 % 256 ∷ n / 256 ^ 4 % 256 ∷ n / 256 ^ 3 % 256 ∷ n / 256 ^ 2 % 256 ∷ n / 256 % 256 ∷ n % 256 ∷ []
@@ -22,7 +22,7 @@ program : List ℕ → List ℕ
 program [] = []
 program (n ∷ ns) = eight n ++ program ns
 
--- n bytes that count up from k: the document's "1.." is count n 1
+-- n bytes that count up from k: "1.." is count n 1
 count : ℕ → ℕ → List ℕ
 count zero k = []
 count (suc n) k = k ∷ count n (k + 1)

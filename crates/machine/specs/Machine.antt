@@ -1,4 +1,4 @@
--- The machine of document 01, section 5: what one step does, how a run goes, and what is refused before the first step.
+-- The machine of docs/MACHINE.md, section 5: what one step does, how a run goes, and what is refused before the first step.
 -- Assumes nothing.
 use mathlib.Core.Bool.{Bool, true, false, not, cond, _&&_, _||_}
 use mathlib.Core.List.{List, [], _∷_}
@@ -120,7 +120,7 @@ effect w t (Load size dst src off) = afterLoad t dst (loaded w (t .stack) (addre
 effect w t (Store size dst off s) = afterStore w t (address (value t dst) off) size (operandValue t s)
 effect w t NoInstruction = faults cause.BadCode
 
--- ---- one step, in the order of the document
+-- ---- one step, in the order of section 5
 
 unfoldable pub isNoInstruction : Instruction → Bool
 isNoInstruction NoInstruction = true

@@ -1,27 +1,49 @@
 -- What one more pair of digits does to the bytes that are read, and when there are none.
 -- Assumes nothing.
 use mathlib.Core.Bool.{true, false}
-use mathlib.Core.List.{List}
-use mathlib.Core.Path.{_≡_, refl, sym, ap₂, _∙_}
-use Prim.Native.Nat.{ℕ, _+_, _*_, _/_, _≤_, _<_}
+use mathlib.Core.List.{List, [], _∷_, _++_, append-nil}
+use mathlib.Core.Path.{_≡_, refl, sym, ap, ap₂, _∙_}
+use Prim.Native.Nat.{ℕ, suc, _+_, _*_, _/_, _≤_, _<_}
+use native.Mathlib.Numerals.{add-one}
 use native.Mathlib.Omega.{arith}
-use lib.ListN.{getD, set, length, drop}
-use lib.Seq.{getD-set-same, getD-set-other}
-use borrow.Author.Count.{below-more}
+use lib.ListN.{getD, set, length, take, drop, drop-of-length-le}
+use lib.Seq.{drop-cons, append-snoc, take-suc-set}
 use borrow.Author.Tests.{lt-ltb, le-ltb, le-leb, lt-leb, eq-eqb, ne-eqb}
 use Rattle.text.specs.declared.hex.Bytes.the-variants.{Are, Not}
 use Rattle.text.specs.Digit.{digit, Digit}
 use Rattle.text.specs.Number.{digits}
-use Rattle.text.specs.Hex.{fitting, paired, dash, spelled, Pairs, Spelled}
+use Rattle.text.specs.Hex.{fitting, paired, dash, spelled, bytesOf, Spelled}
 use Rattle.text.proofs.Numbers.{and-false, digits-good, digits-bad, digits-end}
 
-pairs-more : (s out : List ℕ) (i v : ℕ) → i < length out → Pairs s out i → v ≡ digit (getD s (i * 2) 0) * 16 + digit (getD s (i * 2 + 1) 0) → Pairs s (set out i v) (i + 1)
-pairs-more s out i v h all here =
-    below-more
-    (λ (k : ℕ). getD (set out i v) k 0 ≡ digit (getD s (k * 2) 0) * 16 + digit (getD s (k * 2 + 1) 0))
-    i
-    (λ k l. getD-set-other out i k v 0 (λ e. omega arith) ∙ all k l)
-    (getD-set-same out i v 0 h ∙ here)
+-- i bytes are in out, and those that the rest of s spells are the ones to come
+abbrev Passed : List ℕ → List ℕ → ℕ → Type 0
+Passed s out i = take i out ++ bytesOf (drop (i * 2) s) ≡ bytesOf s
+
+next-byte : (s : List ℕ) (i : ℕ) → i * 2 + 1 < length s → bytesOf (drop (i * 2) s) ≡ (digit (getD s (i * 2) 0) * 16 + digit (getD s (i * 2 + 1) 0)) ∷ bytesOf (drop ((i + 1) * 2) s)
+unfolding bytesOf
+next-byte s i h =
+    let e : (i + 1) * 2 ≡ suc (suc (i * 2)) = omega arith in
+    rw (drop-cons s (i * 2) 0 (omega arith), drop-cons s (suc (i * 2)) 0 (omega arith), e, add-one (i * 2))
+
+passed-more : (s out : List ℕ) (i v : ℕ) → i < length out → i * 2 + 1 < length s → Passed s out i → v ≡ digit (getD s (i * 2) 0) * 16 + digit (getD s (i * 2 + 1) 0) → Passed s (set out i v) (i + 1)
+passed-more s out i v h l all here =
+    let e : take (i + 1) (set out i v) ≡ take i out ++ (v ∷ []) = rw (add-one i) (take-suc-set out i v h) in
+    ap (λ (t : List ℕ). t ++ bytesOf (drop ((i + 1) * 2) s)) e ∙
+    append-snoc (take i out) v (bytesOf (drop ((i + 1) * 2) s)) ∙
+    ap (λ (t : List ℕ). take i out ++ t) (ap (λ (x : ℕ). x ∷ bytesOf (drop ((i + 1) * 2) s)) here ∙ sym (next-byte s i l)) ∙
+    all
+
+passed-end : (s out : List ℕ) (i : ℕ) → length s ≡ i * 2 → Passed s out i → take i out ≡ bytesOf s
+unfolding bytesOf
+passed-end s out i e all =
+    sym (append-nil (take i out)) ∙ ap (λ (t : List ℕ). take i out ++ bytesOf t) (sym (drop-of-length-le s {i = i * 2} (omega arith))) ∙ all
+
+-- a word of one character spells no byte
+pub no-byte : (s : List ℕ) → length s ≡ 1 → bytesOf s ≡ []
+unfolding bytesOf
+no-byte [] e = refl
+no-byte (x ∷ []) e = refl
+no-byte (x ∷ y ∷ s) e = absurd (omega arith)
 
 module _ (s : List ℕ) (room : ℕ) where
   pub paired-empty : length s ≡ 0 → paired s room ≡ Not
@@ -62,10 +84,10 @@ pub record Reading (s out : List ℕ) (i : ℕ) : Type 0 where
   pub even : length s ≡ length s / 2 * 2
   pub some : length s ≡ 0 → ⊥
   pub rest : digits 16 (drop (i * 2) s) ≡ digits 16 s
-  pub pairs : Pairs s out i
+  pub passed : Passed s out i
 
 pub reading-start : (s out : List ℕ) → length s ≡ length s / 2 * 2 → (length s ≡ 0 → ⊥) → Reading s out 0
-reading-start s out e h = record { even = e; some = h; rest = refl; pairs = λ k l. omega arith }
+reading-start s out e h = record { even = e; some = h; rest = refl; passed = refl }
 
 module _ (s out : List ℕ) (i : ℕ) (g : Reading s out i) (l : i < length s / 2) where
   second : i * 2 + 1 < length s
@@ -91,7 +113,7 @@ module _ (s out : List ℕ) (i : ℕ) (g : Reading s out i) (l : i < length s / 
           even = g .even;
           some = g .some;
           rest = rw f (sym (after-first q ∙ digits-good 16 s (i * 2 + 1) second (omega (arith, w .value))));
-          pairs = pairs-more s out i x o (g .pairs) (e ∙ ap₂ (λ (a c : ℕ). a * 16 + c) (v .value) (w .value));
+          passed = passed-more s out i x o second (g .passed) (e ∙ ap₂ (λ (a c : ℕ). a * 16 + c) (v .value) (w .value));
         }
 
 pub reading-end : (s out : List ℕ) (i room : ℕ) → Reading s out i → i ≡ length s / 2 → length s / 2 ≤ room → Spelled s out room (paired s room) (Are (length s / 2))
@@ -99,5 +121,5 @@ reading-end s out i room g e r =
     record {
       count = sym (paired-good s room (g .some) (g .even) r (sym (g .rest) ∙ digits-end 16 s (i * 2) (omega (arith, g .even))));
       room = r;
-      held = λ k l. g .pairs k (omega arith);
+      held = rw (← e) (passed-end s out i (omega (arith, g .even)) (g .passed));
     }

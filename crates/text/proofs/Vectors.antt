@@ -1,4 +1,4 @@
--- The definitions computed on short texts: what is a number, what are bytes, and what is neither.
+-- The definitions computed on short texts: what is a number, what are bytes, what is neither, and a number written.
 -- Assumes nothing.
 use mathlib.Core.List.{List, [], _∷_}
 use mathlib.Core.Path.{_≡_, refl}
@@ -8,7 +8,8 @@ use Rattle.text.specs.declared.number.Number.the-variants as none
 use Rattle.text.specs.declared.hex.Bytes.the-variants.{Are, Not}
 use Rattle.text.specs.Digit.{among, digit}
 use Rattle.text.specs.Number.{digits, value, numberFrom, number, marked, numeral}
-use Rattle.text.specs.Hex.{fitting, paired, dash, spelled}
+use Rattle.text.specs.Hex.{fitting, paired, dash, spelled, bytesOf}
+use Rattle.text.specs.Buffer.{chars, lastDigits, decimal}
 
 -- 18446744073709551615 and the number after it, without their last digit
 most : ℕ → List ℕ
@@ -73,3 +74,20 @@ dash-inside = refl
 no-word : spelled [] 2 ≡ Not
 unfolding spelled dash paired fitting
 no-word = refl
+
+-- the bytes themselves, highest digit first
+its-bytes : bytesOf (chars "aB07") ≡ 171 ∷ 7 ∷ []
+unfolding bytesOf digit among
+its-bytes = refl
+
+dash-is-empty : bytesOf (chars "-") ≡ []
+unfolding bytesOf
+dash-is-empty = refl
+
+zero-in-decimal : decimal 0 ≡ chars "0"
+unfolding decimal lastDigits
+zero-in-decimal = refl
+
+largest-in-decimal : decimal (2 ^ 64 - 1) ≡ chars "18446744073709551615"
+unfolding decimal lastDigits
+largest-in-decimal = refl

@@ -1,10 +1,10 @@
 -- The bytes that hexadecimal text spells.
 -- Assumes nothing.
 use mathlib.Core.Bool.{Bool, cond, _&&_}
-use mathlib.Core.List.{List}
+use mathlib.Core.List.{List, [], _∷_}
 use mathlib.Core.Path.{_≡_}
-use Prim.Native.Nat.{ℕ, _+_, _*_, _/_, _≤_, _<_}
-use lib.ListN.{length, getD}
+use Prim.Native.Nat.{ℕ, _+_, _*_, _/_, _≤_}
+use lib.ListN.{length, getD, take}
 use lib.Dec.{ltb, leb, eqb}
 use Rattle.text.specs.declared.hex.Bytes.{Bytes}
 use Rattle.text.specs.declared.hex.Bytes.the-variants.{Are, Not}
@@ -27,18 +27,20 @@ dash s = eqb (length s) 1 && eqb (getD s 0 0) 45
 unfoldable pub spelled : List ℕ → ℕ → Bytes
 spelled s room = cond (dash s) (Are 0) (paired s room)
 
--- byte k of out is what the two digits from 2 k on spell, for each k below n
-abbrev pub Pairs : List ℕ → List ℕ → ℕ → Type 0
-Pairs s out n = (k : ℕ) → k < n → getD out k 0 ≡ digit (getD s (k * 2) 0) * 16 + digit (getD s (k * 2 + 1) 0)
+-- the bytes that a word spells, two digits each; the one character - spells none
+unfoldable pub bytesOf : List ℕ → List ℕ
+bytesOf [] = []
+bytesOf (h ∷ []) = []
+bytesOf (h ∷ l ∷ s) = (digit h * 16 + digit l) ∷ bytesOf s
 
 -- so many bytes have room in k
 abbrev pub Room : Bytes → ℕ → Type 0
 Room (Are n) k = n ≤ k
 Room Not k = Unit {0}
 
--- so many bytes at the start of out are those of s
+-- so many bytes at the start of out are those that s spells
 abbrev pub Holds : List ℕ → List ℕ → Bytes → Type 0
-Holds s out (Are n) = Pairs s out n
+Holds s out (Are n) = take n out ≡ bytesOf s
 Holds s out Not = Unit {0}
 
 -- the answer r on the word s is the one expected, and so many bytes stand in out, which has k

@@ -2,3 +2,4 @@ pub mod Scan
 pub mod Digit
 pub mod Number
 pub mod Hex
+pub mod Buffer

@@ -1,12 +1,11 @@
 // Text put into a lent buffer from an index on. What finds no room is left out, so an answer that is the buffer's length may be cut.
 // Assumes nothing.
-ghost use Prim.Native.Nat.{_≤_};
-ghost use lib.ListN.{length};
+ghost use mathlib.Core.List.{[], _∷_};
+ghost use Rattle.text.specs.Buffer.{Put, decimal};
 
 // Puts one character at `at`, and answers the index after it.
 pub fn put(out: &mut [u8], at: usize, b: u8) -> usize
-    requires { ⌜ at ≤ length (now out) ⌝ }
-    ensures { λ r. ⌜ (at ≤ r) × (r ≤ length (now (out .entry))) ⌝ }
+    ensures { λ r. ⌜ Put (now (out .entry)) at (b ∷ []) (now (out .exit)) r ⌝ }
 {
     if at < out.len() {
         out[at] = b;
@@ -17,8 +16,7 @@ pub fn put(out: &mut [u8], at: usize, b: u8) -> usize
 
 // Puts the characters of `s` from `at` on, and answers the index after them.
 pub fn put_text(out: &mut [u8], at: usize, s: &[u8]) -> usize
-    requires { ⌜ at ≤ length (now out) ⌝ }
-    ensures { λ r. ⌜ (at ≤ r) × (r ≤ length (now (out .entry))) ⌝ }
+    ensures { λ r. ⌜ Put (now (out .entry)) at (now (s .entry)) (now (out .exit)) r ⌝ }
 {
     let mut o = at;
     let mut i = 0;
@@ -31,8 +29,7 @@ pub fn put_text(out: &mut [u8], at: usize, s: &[u8]) -> usize
 
 // Puts `n` in decimal from `at` on, and answers the index after it.
 pub fn put_decimal(out: &mut [u8], at: usize, n: u64) -> usize
-    requires { ⌜ at ≤ length (now out) ⌝ }
-    ensures { λ r. ⌜ (at ≤ r) × (r ≤ length (now (out .entry))) ⌝ }
+    ensures { λ r. ⌜ Put (now (out .entry)) at (decimal n) (now (out .exit)) r ⌝ }
 {
     let mut digits = [0u8; 20];
     let k = io::decimal(n, &mut digits);

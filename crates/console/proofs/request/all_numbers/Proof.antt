@@ -5,41 +5,17 @@ use Rattle.console.specs.Request.{four}
 use Rattle.console.proofs.request.all_numbers.Statement.{statement}
 use Rattle.console.proofs.request.all_numbers.Tie as tie
 
-enum-known-size : tie.Need-enum-known-size
-enum-known-size c = search needs
-
-enum-told : tie.Need-enum-told
-enum-told c = search needs
-
 returns : tie.Need-returns
 unfolding four
 returns c = rw (c .enum-told .given .1)
-
-enum-known-p : tie.Need-enum-known-p
-enum-known-p c = search needs
-
-enum-told-2 : tie.Need-enum-told-2
-enum-told-2 c = search needs
 
 returns-2 : tie.Need-returns-2
 unfolding four
 returns-2 c = rw (c .before .before .before .size .given .1, c .enum-told2 .given .1)
 
-enum-known-s : tie.Need-enum-known-s
-enum-known-s c = search needs
-
-enum-told-3 : tie.Need-enum-told-3
-enum-told-3 c = search needs
-
 returns-3 : tie.Need-returns-3
 unfolding four
 returns-3 c = rw (c .before .before .before .before .before .before .size .given .1, c .before .before .before .p .given .1, c .enum-told3 .given .1)
-
-enum-known-budget : tie.Need-enum-known-budget
-enum-known-budget c = search needs
-
-enum-told-4 : tie.Need-enum-told-4
-enum-told-4 c = search needs
 
 returns-4 : tie.Need-returns-4
 unfolding four
@@ -53,16 +29,5 @@ pub all-numbers-spec : {M : Type 1} → statement M
 all-numbers-spec =
     tie.close
     (tie.spec
-    enum-known-size
-    enum-told
-    returns
-    enum-known-p
-    enum-told-2
-    returns-2
-    enum-known-s
-    enum-told-3
-    returns-3
-    enum-known-budget
-    enum-told-4
-    returns-4
-    returns-5)
+    (λ c. search needs) (λ c. search needs) returns (λ c. search needs) (λ c. search needs) returns-2
+    (λ c. search needs) (λ c. search needs) returns-3 (λ c. search needs) (λ c. search needs) returns-4 returns-5)

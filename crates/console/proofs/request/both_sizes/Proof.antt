@@ -5,21 +5,9 @@ use Rattle.console.specs.Request.{two}
 use Rattle.console.proofs.request.both_sizes.Statement.{statement}
 use Rattle.console.proofs.request.both_sizes.Tie as tie
 
-enum-known-program : tie.Need-enum-known-program
-enum-known-program c = search needs
-
-enum-told : tie.Need-enum-told
-enum-told c = search needs
-
 returns : tie.Need-returns
 unfolding two
 returns c = rw (c .enum-told .given .1)
-
-enum-known-rec : tie.Need-enum-known-rec
-enum-known-rec c = search needs
-
-enum-told-2 : tie.Need-enum-told-2
-enum-told-2 c = search needs
 
 returns-2 : tie.Need-returns-2
 unfolding two
@@ -32,4 +20,5 @@ returns-3 c = rw (c .before .before .before .before .program .given .1, c .befor
 pub both-sizes-spec : {M : Type 1} → statement M
 both-sizes-spec =
     tie.close
-    (tie.spec enum-known-program enum-told returns enum-known-rec enum-told-2 returns-2 returns-3)
+    (tie.spec
+    (λ c. search needs) (λ c. search needs) returns (λ c. search needs) (λ c. search needs) returns-2 returns-3)

@@ -5,14 +5,8 @@ use Rattle.console.proofs.Words.{next}
 use Rattle.console.proofs.request.next_word.Statement.{statement}
 use Rattle.console.proofs.request.next_word.Tie as tie
 
-skip-requires : tie.Need-skip-requires
-skip-requires c κs = search needs
-
-find-requires : tie.Need-find-requires
-find-requires c κs = search needs
-
 returns : tie.Need-returns
 returns c = next (c .before .before .before .args .line .now) (c .before .before .before .args .from) (c .before .skip .result) (c .find .result) (c .before .skip .ensures) (c .find .ensures)
 
 pub next-word-spec : {M : Type 1} → statement M
-next-word-spec = tie.close (tie.spec skip-requires find-requires returns)
+next-word-spec = tie.close (tie.spec (λ c κs. search needs) (λ c κs. search needs) returns)

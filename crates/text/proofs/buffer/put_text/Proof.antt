@@ -1,53 +1,33 @@
--- `put_text` stays inside the buffer. The loop keeps the index between `at` and the length.
+-- `put_text` puts its text. The loop keeps that what it passed of the text is put, and the buffer's length.
 -- The measure is what is left of the text. Assumes nothing.
-use mathlib.Core.Path.{_≡_}
+use mathlib.Core.Path.{refl, _≡_}
 use Prim.Native.Nat.{_-_, _≤_}
-use lib.ListN.{length}
+use native.Mathlib.Omega.{arith}
+use lib.ListN.{length, take}
 use borrow.Author.Needs.{needs}
+use Rattle.text.proofs.Puts.{put-none, put-more, put-whole}
+use Rattle.text.specs.Buffer.{Put}
 use Rattle.text.proofs.buffer.put_text.Statement.{statement}
 use Rattle.text.proofs.buffer.put_text.Tie as tie
 
 abbrev Inv-loop : tie.InvT-loop
-Inv-loop out₀ at s o₀ i₀ out o i = (at ≤ o) × ((o ≤ length out) × (length out ≡ length out₀))
+Inv-loop out₀ at s o₀ i₀ out o i = (i ≤ length s) × ((length out ≡ length out₀) × Put out₀ at (take i s) out o)
 
 abbrev μ-loop : tie.MeasureT-loop
 μ-loop out₀ at s o₀ i₀ out o i = length s - i
 
 loop-holds : tie.Need-loop-holds Inv-loop μ-loop
-loop-holds c = search needs
-
-shared-slice-read-put : tie.Need-shared-slice-read-put Inv-loop μ-loop
-shared-slice-read-put c = search needs
-
-put-requires : tie.Need-put-requires Inv-loop μ-loop
-put-requires c κs = search needs
-
-add-i : tie.Need-add-i Inv-loop μ-loop
-add-i c = search needs
-
-loop-less : tie.Need-loop-less Inv-loop μ-loop
-loop-less c = search needs
+loop-holds c = (omega arith, (refl, put-none _ _))
 
 loop-again : tie.Need-loop-again Inv-loop μ-loop
-loop-again c = search needs
-
-same-length : tie.Need-same-length Inv-loop μ-loop
-same-length c = search needs
+loop-again c = (omega arith, (search needs, put-more _ _ (c .before .before .before .before .before .before .before .before .before .args .s .now) _ _ (c .before .before .before .before .before .before .loop .i) _ _ (c .before .before .before .before .before .before .loop .inv .1 .1) (c .before .before .put .ensures) (omega arith)))
 
 returns : tie.Need-returns Inv-loop μ-loop
-returns c = search needs
+returns c = put-whole _ _ (c .before .before .before .before .args .s .now) _ _ (c .before .loop .i) (c .before .loop .inv .1 .1) (omega arith)
 
 pub put-text-spec : {M : Type 1} → statement M
 put-text-spec =
     tie.close
     (tie.spec
-    Inv-loop
-    μ-loop
-    loop-holds
-    shared-slice-read-put
-    put-requires
-    add-i
-    loop-less
-    loop-again
-    same-length
-    returns)
+    Inv-loop μ-loop loop-holds (λ c. search needs) (λ c κs. search needs) (λ c. search needs) (λ c. search needs)
+    loop-again (λ c. search needs) returns)

@@ -11,32 +11,17 @@ use Rattle.text.proofs.digit.value_of.Tie as tie
 returns : tie.Need-returns
 returns c = record { value = sym (digit-below _ (omega arith)); small = omega arith }
 
-wide-requires : tie.Need-wide-requires
-wide-requires c κs = search needs
-
 returns-2 : tie.Need-returns-2
 returns-2 c = record { value = c .wide .ensures .0 ∙ sym (digit-decimal _ (omega arith) (omega arith)); small = omega arith }
 
 returns-3 : tie.Need-returns-3
 returns-3 c = record { value = sym (digit-between _ (omega arith) (omega arith)); small = omega arith }
 
-sub-wide : tie.Need-sub-wide
-sub-wide c = search needs
-
-wide-requires-2 : tie.Need-wide-requires-2
-wide-requires-2 c κs = search needs
-
 returns-4 : tie.Need-returns-4
 returns-4 c = record { value = c .wide2 .ensures .0 ∙ sym (digit-upper _ (omega arith) (omega arith)); small = omega arith }
 
 returns-5 : tie.Need-returns-5
 returns-5 c = record { value = sym (digit-among _ (omega arith) (omega arith)); small = omega arith }
-
-sub-wide-2 : tie.Need-sub-wide-2
-sub-wide-2 c = search needs
-
-wide-requires-3 : tie.Need-wide-requires-3
-wide-requires-3 c κs = search needs
 
 returns-6 : tie.Need-returns-6
 returns-6 c = record { value = c .wide3 .ensures .0 ∙ sym (digit-lower _ (omega arith) (omega arith)); small = omega arith }
@@ -48,15 +33,5 @@ pub value-of-spec : {M : Type 1} → statement M
 value-of-spec =
     tie.close
     (tie.spec
-    returns
-    wide-requires
-    returns-2
-    returns-3
-    sub-wide
-    wide-requires-2
-    returns-4
-    returns-5
-    sub-wide-2
-    wide-requires-3
-    returns-6
-    returns-7)
+    returns (λ c κs. search needs) returns-2 returns-3 (λ c. search needs) (λ c κs. search needs) returns-4
+    returns-5 (λ c. search needs) (λ c κs. search needs) returns-6 returns-7)

@@ -10,9 +10,6 @@ use Rattle.text.specs.Number.{digits}
 use Rattle.text.proofs.hex.read_pairs.Statement.{statement}
 use Rattle.text.proofs.hex.read_pairs.Tie as tie
 
--- `read_pairs` puts the bytes that the pairs spell. The loop keeps the pairs passed, and that the rest is of digits if and only if the whole is.
--- The measure is the number of bytes left. Assumes nothing.
-
 abbrev Inv-loop : tie.InvT-loop
 Inv-loop s out₀ n i₀ out i = (i ≤ n) × ((length out ≡ length out₀) × ((n ≤ length out) × Reading s out i))
 
@@ -21,9 +18,6 @@ abbrev μ-loop : tie.MeasureT-loop
 
 returns : tie.Need-returns Inv-loop μ-loop
 returns c = record { count = sym (paired-empty (c .before .before .before .args .s .now) _ (c .if1 .taken)); room = tt; held = tt }
-
-mul-if2 : tie.Need-mul-if2 Inv-loop μ-loop
-mul-if2 c = search needs
 
 returns-2 : tie.Need-returns-2 Inv-loop μ-loop
 returns-2 c = record { count = sym (paired-odd (c .before .before .before .before .args .s .now) _ (c .if2 .taken)); room = tt; held = tt }
@@ -34,62 +28,14 @@ returns-3 c = record { count = sym (paired-long (c .before .before .before .befo
 loop-holds : tie.Need-loop-holds Inv-loop μ-loop
 loop-holds c = (omega arith, (omega arith, (omega arith, reading-start _ _ (omega arith) (c .before .before .if1 .left))))
 
-mul-value-of : tie.Need-mul-value-of Inv-loop μ-loop
-mul-value-of c = search needs
-
-shared-slice-read-value-of : tie.Need-shared-slice-read-value-of Inv-loop μ-loop
-shared-slice-read-value-of c = search needs
-
-value-of-requires : tie.Need-value-of-requires Inv-loop μ-loop
-value-of-requires c κs = search needs
-
-mul-value-of-2 : tie.Need-mul-value-of-2 Inv-loop μ-loop
-mul-value-of-2 c = search needs
-
-add-value-of : tie.Need-add-value-of Inv-loop μ-loop
-add-value-of c = search needs
-
-shared-slice-read-value-of-2 : tie.Need-shared-slice-read-value-of-2 Inv-loop μ-loop
-shared-slice-read-value-of-2 c = search needs
-
-value-of-requires-2 : tie.Need-value-of-requires-2 Inv-loop μ-loop
-value-of-requires-2 c κs = search needs
-
-same-length : tie.Need-same-length Inv-loop μ-loop
-same-length c = search needs
-
 returns-4 : tie.Need-returns-4 Inv-loop μ-loop
 returns-4 c = record { count = reading-first _ _ _ (c .before .before .before .before .before .before .loop .inv .1 .1 .1) (omega arith) _ _ (c .before .before .before .value-of .ensures) (c .before .value-of2 .ensures) _ (omega arith); room = tt; held = tt }
-
-same-length-2 : tie.Need-same-length-2 Inv-loop μ-loop
-same-length-2 c = search needs
 
 returns-5 : tie.Need-returns-5 Inv-loop μ-loop
 returns-5 c = record { count = reading-second _ _ _ (c .before .before .before .before .before .before .before .loop .inv .1 .1 .1) (omega arith) _ _ (c .before .before .before .before .value-of .ensures) (c .before .before .value-of2 .ensures) _ (omega arith) (omega arith); room = tt; held = tt }
 
-mul-byte : tie.Need-mul-byte Inv-loop μ-loop
-mul-byte c = search needs
-
-add-byte : tie.Need-add-byte Inv-loop μ-loop
-add-byte c = search needs
-
-byte-requires : tie.Need-byte-requires Inv-loop μ-loop
-byte-requires c κs = search needs
-
-slice-write-out : tie.Need-slice-write-out Inv-loop μ-loop
-slice-write-out c = search needs
-
-add-i : tie.Need-add-i Inv-loop μ-loop
-add-i c = search needs
-
-loop-less : tie.Need-loop-less Inv-loop μ-loop
-loop-less c = search needs
-
 loop-again : tie.Need-loop-again Inv-loop μ-loop
 loop-again c = (omega arith, (search needs, (search needs, reading-more _ _ _ (c .before .before .before .before .before .before .before .before .loop .inv .1 .1 .1) (omega arith) _ _ (c .before .before .before .before .before .value-of .ensures) (c .before .before .before .value-of2 .ensures) 0 (omega arith) (omega arith) (omega arith) _ (c .byte .ensures))))
-
-same-length-3 : tie.Need-same-length-3 Inv-loop μ-loop
-same-length-3 c = search needs
 
 returns-6 : tie.Need-returns-6 Inv-loop μ-loop
 returns-6 c = reading-end _ _ _ _ (c .before .loop .inv .1 .1 .1) (omega arith) (omega arith)
@@ -98,30 +44,8 @@ pub read-pairs-spec : {M : Type 1} → statement M
 read-pairs-spec =
     tie.close
     (tie.spec
-    Inv-loop
-    μ-loop
-    returns
-    mul-if2
-    returns-2
-    returns-3
-    loop-holds
-    mul-value-of
-    shared-slice-read-value-of
-    value-of-requires
-    mul-value-of-2
-    add-value-of
-    shared-slice-read-value-of-2
-    value-of-requires-2
-    same-length
-    returns-4
-    same-length-2
-    returns-5
-    mul-byte
-    add-byte
-    byte-requires
-    slice-write-out
-    add-i
-    loop-less
-    loop-again
-    same-length-3
-    returns-6)
+    Inv-loop μ-loop returns (λ c. search needs) returns-2 returns-3 loop-holds (λ c. search needs)
+    (λ c. search needs) (λ c κs. search needs) (λ c. search needs) (λ c. search needs) (λ c. search needs)
+    (λ c κs. search needs) (λ c. search needs) returns-4 (λ c. search needs) returns-5 (λ c. search needs)
+    (λ c. search needs) (λ c κs. search needs) (λ c. search needs) (λ c. search needs) (λ c. search needs)
+    loop-again (λ c. search needs) returns-6)

@@ -13,9 +13,6 @@ use Rattle.text.proofs.number.read_decimal.Tie as tie
 -- `read_decimal` answers the number that the text spells. The loop keeps that the rest behind n spells what the whole spells.
 -- The measure is what is left of the text. Assumes nothing.
 
--- `read_decimal` answers the number that the text spells. The loop keeps that the rest behind n spells what the whole spells.
--- The measure is what is left of the text. Assumes nothing.
-
 abbrev Inv-loop : tie.InvT-loop
 Inv-loop s n₀ i₀ n i = (i ≤ length s) × ((n ≤ 18446744073709551615) × Spelling 10 s i n)
 
@@ -28,35 +25,14 @@ returns c = sym (number-none 10 (c .before .before .args .s .now) (c .if1 .taken
 loop-holds : tie.Need-loop-holds Inv-loop μ-loop
 loop-holds c = (omega arith, (omega arith, number-start _ _ (c .if1 .left)))
 
-shared-slice-read-value-of : tie.Need-shared-slice-read-value-of Inv-loop μ-loop
-shared-slice-read-value-of c = search needs
-
-value-of-requires : tie.Need-value-of-requires Inv-loop μ-loop
-value-of-requires c κs = search needs
-
 returns-2 : tie.Need-returns-2 Inv-loop μ-loop
 returns-2 c = number-bad _ _ _ _ _ (c .before .before .before .before .loop .inv .1 .1) (omega arith) (c .before .value-of .ensures) (omega arith)
 
 returns-3 : tie.Need-returns-3 Inv-loop μ-loop
 returns-3 c = number-over _ _ _ _ _ (c .before .before .before .before .before .loop .inv .1 .1) (omega arith) (c .before .before .value-of .ensures) (omega arith) (omega arith)
 
-mul-m : tie.Need-mul-m Inv-loop μ-loop
-mul-m c = search needs
-
-sub-if4 : tie.Need-sub-if4 Inv-loop μ-loop
-sub-if4 c = search needs
-
 returns-4 : tie.Need-returns-4 Inv-loop μ-loop
 returns-4 c = number-over _ _ _ _ _ (c .before .before .before .before .before .before .loop .inv .1 .1) (omega arith) (c .before .before .before .value-of .ensures) (omega arith) (omega arith)
-
-add-n : tie.Need-add-n Inv-loop μ-loop
-add-n c = search needs
-
-add-i : tie.Need-add-i Inv-loop μ-loop
-add-i c = search needs
-
-loop-less : tie.Need-loop-less Inv-loop μ-loop
-loop-less c = search needs
 
 loop-again : tie.Need-loop-again Inv-loop μ-loop
 loop-again c = (omega arith, (omega arith, number-more _ _ _ _ _ (c .before .before .before .before .before .before .loop .inv .1 .1) (omega arith) (c .before .before .before .value-of .ensures) (omega arith)))
@@ -68,19 +44,6 @@ pub read-decimal-spec : {M : Type 1} → statement M
 read-decimal-spec =
     tie.close
     (tie.spec
-    Inv-loop
-    μ-loop
-    returns
-    loop-holds
-    shared-slice-read-value-of
-    value-of-requires
-    returns-2
-    returns-3
-    mul-m
-    sub-if4
-    returns-4
-    add-n
-    add-i
-    loop-less
-    loop-again
-    returns-5)
+    Inv-loop μ-loop returns loop-holds (λ c. search needs) (λ c κs. search needs) returns-2 returns-3
+    (λ c. search needs) (λ c. search needs) returns-4 (λ c. search needs) (λ c. search needs) (λ c. search needs)
+    loop-again returns-5)

@@ -13,9 +13,6 @@ use Rattle.text.proofs.number.read_hexadecimal.Tie as tie
 -- `read_hexadecimal` answers the number that the text spells. The loop keeps that the rest behind n spells what the whole spells.
 -- The measure is what is left of the text. Assumes nothing.
 
--- `read_hexadecimal` answers the number that the text spells. The loop keeps that the rest behind n spells what the whole spells.
--- The measure is what is left of the text. Assumes nothing.
-
 abbrev Inv-loop : tie.InvT-loop
 Inv-loop s n₀ i₀ n i = (i ≤ length s) × ((n ≤ 18446744073709551615) × Spelling 16 s i n)
 
@@ -28,29 +25,11 @@ returns c = sym (number-none 16 (c .before .before .args .s .now) (c .if1 .taken
 loop-holds : tie.Need-loop-holds Inv-loop μ-loop
 loop-holds c = (omega arith, (omega arith, number-start _ _ (c .if1 .left)))
 
-shared-slice-read-value-of : tie.Need-shared-slice-read-value-of Inv-loop μ-loop
-shared-slice-read-value-of c = search needs
-
-value-of-requires : tie.Need-value-of-requires Inv-loop μ-loop
-value-of-requires c κs = search needs
-
 returns-2 : tie.Need-returns-2 Inv-loop μ-loop
 returns-2 c = number-bad _ _ _ _ _ (c .before .before .before .before .loop .inv .1 .1) (omega arith) (c .before .value-of .ensures) (omega arith)
 
 returns-3 : tie.Need-returns-3 Inv-loop μ-loop
 returns-3 c = number-over _ _ _ _ _ (c .before .before .before .before .before .loop .inv .1 .1) (omega arith) (c .before .before .value-of .ensures) (omega arith) (omega arith)
-
-mul-n : tie.Need-mul-n Inv-loop μ-loop
-mul-n c = search needs
-
-add-n : tie.Need-add-n Inv-loop μ-loop
-add-n c = search needs
-
-add-i : tie.Need-add-i Inv-loop μ-loop
-add-i c = search needs
-
-loop-less : tie.Need-loop-less Inv-loop μ-loop
-loop-less c = search needs
 
 loop-again : tie.Need-loop-again Inv-loop μ-loop
 loop-again c = (omega arith, (omega arith, number-more _ _ _ _ _ (c .before .before .before .before .before .loop .inv .1 .1) (omega arith) (c .before .before .value-of .ensures) (omega arith)))
@@ -62,17 +41,5 @@ pub read-hexadecimal-spec : {M : Type 1} → statement M
 read-hexadecimal-spec =
     tie.close
     (tie.spec
-    Inv-loop
-    μ-loop
-    returns
-    loop-holds
-    shared-slice-read-value-of
-    value-of-requires
-    returns-2
-    returns-3
-    mul-n
-    add-n
-    add-i
-    loop-less
-    loop-again
-    returns-4)
+    Inv-loop μ-loop returns loop-holds (λ c. search needs) (λ c κs. search needs) returns-2 returns-3
+    (λ c. search needs) (λ c. search needs) (λ c. search needs) (λ c. search needs) loop-again returns-4)

@@ -11,41 +11,14 @@ use Rattle.text.proofs.Numbers.{numeral-short, numeral-other, numeral-p
 use Rattle.text.proofs.number.read_number.Statement.{statement}
 use Rattle.text.proofs.number.read_number.Tie as tie
 
-read-decimal-requires : tie.Need-read-decimal-requires
-read-decimal-requires c κs = search needs
-
 returns : tie.Need-returns
 returns c = c .read-decimal .ensures ∙ sym (numeral-short (c .before .before .before .args .s .now) (c .before .if1 .taken))
-
-shared-slice-read-if2 : tie.Need-shared-slice-read-if2
-shared-slice-read-if2 c = search needs
-
-read-decimal-requires-2 : tie.Need-read-decimal-requires-2
-read-decimal-requires-2 c κs = search needs
 
 returns-2 : tie.Need-returns-2
 returns-2 c = c .read-decimal2 .ensures ∙ sym (numeral-other (c .before .before .before .before .before .args .s .now) (c .before .if2 .taken))
 
-shared-slice-read-if3 : tie.Need-shared-slice-read-if3
-shared-slice-read-if3 c = search needs
-
-read-decimal-requires-3 : tie.Need-read-decimal-requires-3
-read-decimal-requires-3 c κs = search needs
-
 returns-3 : tie.Need-returns-3
 returns-3 c = c .read-decimal3 .ensures ∙ sym (numeral-plain (c .before .before .before .before .before .before .before .args .s .now) (c .before .if3 .taken))
-
-sub-read-hexadecimal : tie.Need-sub-read-hexadecimal
-sub-read-hexadecimal c = search needs
-
-part-read-hexadecimal-start : tie.Need-part-read-hexadecimal-start
-part-read-hexadecimal-start c = search needs
-
-part-read-hexadecimal-end : tie.Need-part-read-hexadecimal-end
-part-read-hexadecimal-end c = search needs
-
-read-hexadecimal-requires : tie.Need-read-hexadecimal-requires
-read-hexadecimal-requires c κs = search needs
 
 returns-4 : tie.Need-returns-4
 returns-4 c = c .read-hexadecimal .ensures ∙ ap (number 16) (take-all (length (c .before .before .before .before .before .before .before .before .args .s .now) - 2) (drop 2 (c .before .before .before .before .before .before .before .before .args .s .now)) (simp length-drop (omega arith))) ∙ sym (numeral-marked (c .before .before .before .before .before .before .before .before .args .s .now) (omega arith) (c .before .before .before .before .if2 .left) (c .before .before .if3 .left))
@@ -54,16 +27,6 @@ pub read-number-spec : {M : Type 1} → statement M
 read-number-spec =
     tie.close
     (tie.spec
-    read-decimal-requires
-    returns
-    shared-slice-read-if2
-    read-decimal-requires-2
-    returns-2
-    shared-slice-read-if3
-    read-decimal-requires-3
-    returns-3
-    sub-read-hexadecimal
-    part-read-hexadecimal-start
-    part-read-hexadecimal-end
-    read-hexadecimal-requires
-    returns-4)
+    (λ c κs. search needs) returns (λ c. search needs) (λ c κs. search needs) returns-2 (λ c. search needs)
+    (λ c κs. search needs) returns-3 (λ c. search needs) (λ c. search needs) (λ c. search needs)
+    (λ c κs. search needs) returns-4)
