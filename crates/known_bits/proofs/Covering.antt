@@ -1,0 +1,163 @@
+-- The masks that the code makes cover what they are said to cover: the numbers up to one, the multiples of a power of two.
+-- Assumes nothing.
+use mathlib.Core.Path.{_≡_, refl, sym, ap, ap₂, _∙_, subst}
+use Prim.Native.Nat.{ℕ, zero, suc, _+_, _-_, _*_, _/_, _%_, _^_, _≤_, _<_}
+use native.Mathlib.Nat.{mod-lt, zero-mod, lt-of-lt-of-le, lt-of-le-of-lt, mul-mod-left, mod-self}
+use native.Mathlib.Decide.{decLt}
+use native.Mathlib.Omega.{arith}
+use lib.Count.{leadingZeros, leading-length, trailingZeros, under}
+use lib.Pow.{high, pow-pos, pow-add, pow-mono, ones-lt, ones-split, split}
+use lib.Bits.{bitAnd, bitOr, and-mod, or-mod, and-zero-l}
+use Rattle.word.specs.Word.{bit}
+use Rattle.word.proofs.Bit.{bit-zero, bit-mod, bit-high, bit-not, bit-shr, bit-shl, low-eq}
+use Rattle.known_bits.specs.declared.Bits.{Bits}
+use Rattle.known_bits.specs.Masks.{Covers, Multiple}
+use Rattle.known_bits.specs.Pair.{top}
+
+-- ---- all bits below n
+pub bit-of-ones : (n k : ℕ) → k < n → bit k (2 ^ n - 1) ≡ 1
+bit-of-ones n k l = ap (bit k) (omega arith) ∙ bit-not n k 0 l (pow-pos n) ∙ ap (λ (d : ℕ). 1 - d) (bit-zero k)
+
+pub ones-cover-all-below : (n x : ℕ) → x < 2 ^ n → Covers (2 ^ n - 1) x
+ones-cover-all-below n x h = record { zeros = λ k z. go k z (decLt k n) }
+  where
+    go : (k : ℕ) → bit k (2 ^ n - 1) ≡ 0 → Dec (k < n) → bit k x ≡ 0
+    go k z (yes l) = absurd (omega (arith, bit-of-ones n k l))
+    go k z (no i) = bit-high k x (lt-of-lt-of-le h (pow-mono (omega arith)))
+
+-- ---- up to the highest bit of t
+module _ (t : ℕ) (h : t < 2 ^ 64) where
+  pub leading-zeros-below-64 : 0 < t → leadingZeros 64 t < 64
+  leading-zeros-below-64 p = let s = leading-length 64 t h in go (s .0) (s .1) (s .2)
+    where
+      go : (m : ℕ) → leadingZeros 64 t + m ≡ 64 → t < 2 ^ m → leadingZeros 64 t < 64
+      go zero e l = absurd (omega arith)
+      go (suc m) e l = omega arith
+
+  -- as many ones as t has digits
+  ones-of : (n : ℕ) × ((2 ^ 64 - 1) / 2 ^ leadingZeros 64 t ≡ 2 ^ n - 1) × (t < 2 ^ n) × (2 ^ n ≤ 2 * t + 1)
+  ones-of =
+      let s = leading-length 64 t h in
+      let z = leadingZeros 64 t in
+      let e : s .0 + z ≡ 64 = omega (arith, s .1) in (
+        s .0,
+        subst (λ (k : ℕ). (2 ^ k - 1) / 2 ^ z ≡ 2 ^ s .0 - 1) e (ap (λ (y : ℕ). y / 2 ^ z) (ones-split (s .0) z) ∙ high (2 ^ s .0 - 1) z (ones-lt z)),
+        s .2,
+        s .3,
+      )
+
+  pub ones-to-the-highest-bit-cover : (x : ℕ) → x ≤ t → Covers ((2 ^ 64 - 1) / 2 ^ leadingZeros 64 t) x
+  ones-to-the-highest-bit-cover x l =
+      let s = ones-of in subst (λ (m : ℕ). Covers m x) (sym (s .1)) (ones-cover-all-below (s .0) x (lt-of-le-of-lt l (s .2)))
+
+  pub ones-to-the-highest-bit-are-no-longer : (n : ℕ) → t < 2 ^ n → (2 ^ 64 - 1) / 2 ^ leadingZeros 64 t < 2 ^ n
+  ones-to-the-highest-bit-are-no-longer n l =
+      let s = ones-of in subst (λ (m : ℕ). m < 2 ^ n) (sym (s .1)) (go (s .0) (s .3) (decLt n (s .0)))
+    where
+      go : (k : ℕ) → 2 ^ k ≤ 2 * t + 1 → Dec (n < k) → 2 ^ k - 1 < 2 ^ n
+      go k b (yes i) =
+          let p : 2 ^ (n + 1) ≤ 2 ^ k = pow-mono (omega arith) in
+          absurd (omega (arith, pow-add 2 n 1))
+      go k b (no i) = let p : 2 ^ k ≤ 2 ^ n = pow-mono (omega arith) in omega (arith, pow-pos k)
+
+-- ---- the low zeros
+low-bits-are-zero : (k n j : ℕ) → j < trailingZeros k n → bit j n ≡ 0
+unfolding trailingZeros bit
+low-bits-are-zero zero n j l = absurd (omega arith)
+low-bits-are-zero (suc k) n j l = go (low-bits-are-zero k (n / 2)) (n % 2) refl j l
+  where
+    go : ((i : ℕ) → i < trailingZeros k (n / 2) → bit i (n / 2) ≡ 0) → (d : ℕ) → n % 2 ≡ d
+        → (i : ℕ) → i < under d (trailingZeros k (n / 2)) → bit i n ≡ 0
+    go rest zero e zero m = ap (λ (x : ℕ). x % 2) (omega arith) ∙ e
+    go rest zero e (suc i) m = ap (λ (j : ℕ). bit j n) (omega arith) ∙ sym (bit-shr 1 i n) ∙ rest i (omega arith)
+    go rest (suc d) e i m = absurd (omega arith)
+
+pub covered-has-the-low-zeros : (t x : ℕ) → Covers t x → x % 2 ^ trailingZeros 64 t ≡ 0
+covered-has-the-low-zeros t x h =
+    low-eq (trailingZeros 64 t) x 0 (λ j l. h .zeros j (low-bits-are-zero 64 t j l) ∙ sym (bit-zero j)) ∙ zero-mod (2 ^ trailingZeros 64 t)
+
+-- and no other number of t's low zeros is greater
+low-bit-is-one : (k n : ℕ) → trailingZeros k n < k → bit (trailingZeros k n) n ≡ 1
+unfolding trailingZeros bit
+low-bit-is-one zero n l = absurd (omega arith)
+low-bit-is-one (suc k) n l = go (low-bit-is-one k (n / 2)) (n % 2) refl l
+  where
+    go : (trailingZeros k (n / 2) < k → bit (trailingZeros k (n / 2)) (n / 2) ≡ 1) → (d : ℕ) → n % 2 ≡ d
+        → under d (trailingZeros k (n / 2)) < suc k → bit (under d (trailingZeros k (n / 2))) n ≡ 1
+    go rest zero e m =
+        let t = trailingZeros k (n / 2) in
+        let e : suc t ≡ 1 + t = omega arith in
+        ap (λ (j : ℕ). bit j n) e ∙ sym (bit-shr 1 t n) ∙ rest (omega arith)
+    go rest (suc d) e m = let o : n / 2 ^ 0 ≡ n = omega arith in ap (λ (x : ℕ). x % 2) o ∙ omega (arith, mod-lt n (pow-pos 1))
+
+pub a-multiple-has-as-many-zeros : (t k : ℕ) → t % 2 ^ k ≡ 0 → trailingZeros 64 t < 64 → k ≤ trailingZeros 64 t
+a-multiple-has-as-many-zeros t k h l = go (decLt (trailingZeros 64 t) k)
+  where
+    go : Dec (trailingZeros 64 t < k) → k ≤ trailingZeros 64 t
+    go (yes i) =
+        let z : bit (trailingZeros 64 t) t ≡ 0 = sym (bit-mod k (trailingZeros 64 t) t i) ∙ ap (bit (trailingZeros 64 t)) h ∙ bit-zero (trailingZeros 64 t) in
+        absurd (omega (arith, low-bit-is-one 64 t l))
+    go (no i) = omega arith
+
+-- ---- from bit n on
+module _ (n x : ℕ) (h : x % 2 ^ n ≡ 0) where
+  low-of-multiple : (k : ℕ) → k < n → bit k x ≡ 0
+  low-of-multiple k l = sym (bit-mod n k x l) ∙ ap (bit k) h ∙ bit-zero k
+
+  pub no-bit-of-a-multiple-of-more : 64 ≤ n → Covers 0 (x % 2 ^ 64)
+  no-bit-of-a-multiple-of-more g = record { zeros = λ k z. go k (decLt k 64) }
+    where
+      go : (k : ℕ) → Dec (k < 64) → bit k (x % 2 ^ 64) ≡ 0
+      go k (yes l) = bit-mod 64 k x l ∙ low-of-multiple k (omega arith)
+      go k (no i) = bit-high k (x % 2 ^ 64) (lt-of-lt-of-le (mod-lt x (pow-pos 64)) (pow-mono {i = 64} (omega arith)))
+
+  pub shifted-ones-cover-multiples : Covers (((2 ^ 64 - 1) * 2 ^ n) % 2 ^ 64) (x % 2 ^ 64)
+  shifted-ones-cover-multiples = record { zeros = λ k z. go k z (decLt k 64) (decLt k n) }
+    where
+      go : (k : ℕ) → bit k (((2 ^ 64 - 1) * 2 ^ n) % 2 ^ 64) ≡ 0 → Dec (k < 64) → Dec (k < n) → bit k (x % 2 ^ 64) ≡ 0
+      go k z (yes l) (yes i) = bit-mod 64 k x l ∙ low-of-multiple k i
+      go k z (yes l) (no i) =
+          let e : n + (k - n) ≡ k = omega arith in
+          let b : bit k (((2 ^ 64 - 1) * 2 ^ n) % 2 ^ 64) ≡ 1 =
+          bit-mod 64 k ((2 ^ 64 - 1) * 2 ^ n) l ∙ ap (λ (j : ℕ). bit j ((2 ^ 64 - 1) * 2 ^ n)) (sym e)
+          ∙ bit-shl n (k - n) (2 ^ 64 - 1) ∙ bit-of-ones 64 (k - n) (omega arith) in
+          absurd (omega arith)
+      go k z (no l) i = bit-high k (x % 2 ^ 64) (lt-of-lt-of-le (mod-lt x (pow-pos 64)) (pow-mono {i = 64} (omega arith)))
+
+-- ---- products of multiples
+pub zeros-of-a-product : (x y i j : ℕ) → x % 2 ^ i ≡ 0 → y % 2 ^ j ≡ 0 → (x * y) % 2 ^ (i + j) ≡ 0
+zeros-of-a-product x y i j p q =
+    let ex : x ≡ x / 2 ^ i * 2 ^ i = omega (arith, split x i) in
+    let ey : y ≡ y / 2 ^ j * 2 ^ j = omega (arith, split y j) in
+    ap₂ (λ (u v : ℕ). u % v) (ap₂ (λ (u v : ℕ). u * v) ex ey ∙ grouped (x / 2 ^ i) (2 ^ i) (y / 2 ^ j) (2 ^ j)) (pow-add 2 i j)
+    ∙ mul-mod-left (x / 2 ^ i * (y / 2 ^ j)) (2 ^ i * 2 ^ j)
+  where
+    grouped : (a b c d : ℕ) → a * b * (c * d) ≡ a * c * (b * d)
+    grouped a b c d = omega arith
+
+pub zeros-of-fewer : (x m n : ℕ) → m ≤ n → x % 2 ^ n ≡ 0 → x % 2 ^ m ≡ 0
+zeros-of-fewer x m n l h = low-eq m x 0 (λ j i. low-of-multiple n x h j (omega arith) ∙ sym (bit-zero j)) ∙ zero-mod (2 ^ m)
+
+pub cut-keeps-zeros : (w x n : ℕ) → x % 2 ^ n ≡ 0 → (x % 2 ^ w) % 2 ^ n ≡ 0
+cut-keeps-zeros w x n h = low-eq n (x % 2 ^ w) 0 (λ j l. go j l (decLt j w) ∙ sym (bit-zero j)) ∙ zero-mod (2 ^ n)
+  where
+    go : (j : ℕ) → j < n → Dec (j < w) → bit j (x % 2 ^ w) ≡ 0
+    go j l (yes i) = bit-mod w j x i ∙ low-of-multiple n x h j l
+    go j l (no i) = bit-high j (x % 2 ^ w) (lt-of-lt-of-le (mod-lt x (pow-pos w)) (pow-mono (omega arith)))
+
+pub and-keeps-zeros : (m x n : ℕ) → m % 2 ^ n ≡ 0 → bitAnd m x % 2 ^ n ≡ 0
+and-keeps-zeros m x n h = and-mod m x n ∙ ap (λ (u : ℕ). bitAnd u (x % 2 ^ n)) h ∙ and-zero-l (x % 2 ^ n)
+
+pub top-keeps-zeros : (n : ℕ) (p : Bits) → Multiple n p → top p % 2 ^ n ≡ 0
+top-keeps-zeros n p h = or-mod (p .value) (p .mask) n ∙ ap₂ bitOr (h .value-multiple) (h .mask-multiple)
+
+pub no-bit-has-all-zeros : (k : ℕ) → 0 % 2 ^ k ≡ 0
+no-bit-has-all-zeros k = zero-mod (2 ^ k)
+
+pub shifted-ones-have-low-zeros : (n k : ℕ) → k ≤ n → (((2 ^ 64 - 1) * 2 ^ n) % 2 ^ 64) % 2 ^ k ≡ 0
+shifted-ones-have-low-zeros n k l =
+    cut-keeps-zeros 64 ((2 ^ 64 - 1) * 2 ^ n) k (zeros-of-fewer ((2 ^ 64 - 1) * 2 ^ n) k n l (mul-mod-left (2 ^ 64 - 1) (2 ^ n)))
+
+pub zeros-of-a-shift : (x i n c : ℕ) → n ≤ c → x % 2 ^ i ≡ 0 → (x * 2 ^ c) % 2 ^ (i + n) ≡ 0
+zeros-of-a-shift x i n c l h =
+    zeros-of-fewer (x * 2 ^ c) (i + n) (i + c) (omega arith) (zeros-of-a-product x (2 ^ c) i c h (mod-self (2 ^ c)))

@@ -1,0 +1,191 @@
+-- What JSET not taken and a meet of two pairs leave: the answer has exactly the numbers that are left, so it is the best.
+-- Assumes nothing.
+use mathlib.Core.Path.{_≡_, refl, sym, ap, _∙_}
+use mathlib.Core.Bool.{Bool, true, false, not}
+use Prim.Native.Nat.{ℕ, _-_, _^_, _<_, min, max}
+use native.Mathlib.Omega.{arith}
+use lib.Bits.{bitAnd, bitOr, bitXor, and-lt, or-lt, xor-lt}
+use lib.Dec.{eqb}
+use lib.Pow.{pow-pos}
+use borrow.Author.Tests.{eqb-true, eq-eqb}
+use Rattle.word.specs.Word.{bit, compare}
+use Rattle.word.specs.declared.Comparison.the-variants as comparison
+use Rattle.word.proofs.Bit.{bit-lt, bit-zero, bit-and, bit-or, bit-xor, ext}
+use Rattle.word.proofs.Cut.{cut-64}
+use Rattle.known_bits.specs.declared.Bits.{Bits}
+use Rattle.known_bits.specs.declared.learn.Learnt.the-variants.{Pair, Nothing}
+use Rattle.known_bits.specs.KnownBits.{Well, Mem, Both, Apart}
+use Rattle.known_bits.specs.Learn.{Learns}
+use Rattle.known_bits.proofs.Base.{same-numbers-is-best}
+use Rattle.known_bits.proofs.Tight.{digit, apart-bit, mem-low, mem-least}
+
+-- ---- JSET
+shares : (x s : ℕ) → x < 2 ^ 64 → s < 2 ^ 64 → compare 64 comparison.Set x s ≡ not (eqb (bitAnd x s) 0)
+unfolding compare
+shares x s hx hs = simp (cut-64 {x = x} hx, cut-64 {x = s} hs)
+
+not-false : (b : Bool) → not b ≡ false → b ≡ true
+not-false true e = refl
+not-false false e = sym e
+
+module _ (a : Bits) (s : ℕ) (hs : s < 2 ^ 64) (ga : Well 64 a) where
+  no-shared-bit : (x : ℕ) → Apart a s x → bitAnd x s ≡ 0
+  no-shared-bit x (h, e) = eqb-true (bitAnd x s) 0 (not-false _ (sym (shares x s (h .fits) hs) ∙ e))
+
+  no-shared-digit : (x : ℕ) → bitAnd x s ≡ 0 → (k : ℕ) → min (bit k x) (bit k s) ≡ 0
+  no-shared-digit x z k = sym (bit-and k x s) ∙ ap (bit k) z ∙ bit-zero k
+
+  pub a-shared-known-bit-leaves-nothing : (bitAnd (a .value) s ≡ 0 → ⊥) → Learns (Apart a s) Nothing
+  a-shared-known-bit-leaves-nothing n =
+      record {
+        answer = λ x i. n (ext 64 (bitAnd (a .value) s) 0 (and-lt 64 (a .value) s (ga .value-fits) hs) (pow-pos 64)
+            (λ k l. omega (
+              arith,
+              bit-zero k,
+              bit-and k (a .value) s,
+              mem-low 64 a ga x (i .0) k l,
+              no-shared-digit x (no-shared-bit x i) k,
+            )));
+      }
+
+  module _ (z : bitAnd (a .value) s ≡ 0) where
+    abbrev left : ℕ
+    left = bitXor (bitOr (a .mask) s) s
+
+    left-bit : (k : ℕ) → bit k left ≡ bit k (a .mask) - bit k s
+    left-bit k = omega (arith, bit-xor k (bitOr (a .mask) s) s, bit-or k (a .mask) s, bit-lt k (a .mask), bit-lt k s)
+
+    left-fits : left < 2 ^ 64
+    left-fits = xor-lt 64 _ s (or-lt 64 (a .mask) s (ga .mask-fits) hs) hs
+
+    abbrev cleared : Bits
+    cleared = record { value = a .value; mask = left }
+
+    cleared-is-well : Well 64 cleared
+    cleared-is-well =
+        record {
+          value-fits = ga .value-fits;
+          mask-fits = left-fits;
+          apart = ext 64 (bitAnd (a .value) left) 0 (and-lt 64 (a .value) left (ga .value-fits) left-fits) (pow-pos 64)
+              (λ k l. omega (arith, bit-zero k, bit-and k (a .value) left, left-bit k, apart-bit 64 a ga k));
+        }
+
+    there : (x : ℕ) → Apart a s x → Mem 64 cleared x
+    there x i =
+        record {
+          fits = i .0 .fits;
+          agrees = λ k l e. digit (bit k (a .mask)) (bit-lt k (a .mask)) (i .0 .agrees k l)
+              (λ u. omega (arith, left-bit k, bit-lt k s, no-shared-digit x (no-shared-bit x i) k, no-shared-digit (a .value) z k));
+        }
+
+    back : (x : ℕ) → Mem 64 cleared x → Apart a s x
+    back x h = (
+      record { fits = h .fits; agrees = λ k l e. h .agrees k l (omega (arith, left-bit k)) },
+      shares x s (h .fits) hs
+          ∙ ap not (eq-eqb (bitAnd x s) 0 (ext 64 (bitAnd x s) 0 (and-lt 64 x s (h .fits) hs) (pow-pos 64)
+          (λ k l. digit (bit k s) (bit-lt k s) (λ e. omega (arith, bit-zero k, bit-and k x s))
+          (λ e. omega (
+            arith,
+            bit-zero k,
+            bit-and k x s,
+            h .agrees k l (omega (arith, left-bit k, bit-lt k (a .mask))),
+            no-shared-digit (a .value) z k,
+          ))))),
+    )
+
+    pub jset-not-taken-clears : Learns (Apart a s) (Pair (record { value = a .value; mask = bitXor (bitOr (a .mask) s) s }))
+    jset-not-taken-clears =
+        record {
+          answer = (
+            same-numbers-is-best 64 (Apart a s) cleared cleared-is-well there back,
+            (a .value, back (a .value) (mem-least 64 cleared cleared-is-well)),
+          );
+        }
+
+-- ---- two pairs for one number
+module _ (a b : Bits) (ga : Well 64 a) (gb : Well 64 b) where
+  abbrev unknown : ℕ
+  unknown = bitOr (a .mask) (b .mask)
+
+  unknown-bit : (k : ℕ) → bit k unknown ≡ max (bit k (a .mask)) (bit k (b .mask))
+  unknown-bit k = bit-or k (a .mask) (b .mask)
+
+  unknown-fits : unknown < 2 ^ 64
+  unknown-fits = or-lt 64 (a .mask) (b .mask) (ga .mask-fits) (gb .mask-fits)
+
+  pub a-difference-in-known-bits-leaves-nothing : (bitOr (a .value) (bitOr (a .mask) (b .mask)) ≡ bitOr (b .value) (bitOr (a .mask) (b .mask)) → ⊥)
+      → Learns (Both a b) Nothing
+  a-difference-in-known-bits-leaves-nothing n =
+      record {
+        answer = λ x i. n (ext 64 _ _ (or-lt 64 (a .value) unknown (ga .value-fits) unknown-fits) (or-lt 64 (b .value) unknown (gb .value-fits) unknown-fits)
+            (λ k l. bit-or k (a .value) unknown ∙ same x (i .0) (i .1) k l ∙ sym (bit-or k (b .value) unknown)));
+      }
+    where
+      same : (x : ℕ) → Mem 64 a x → Mem 64 b x → (k : ℕ) → k < 64 → max (bit k (a .value)) (bit k unknown) ≡ max (bit k (b .value)) (bit k unknown)
+      same x ha hb k l =
+          digit (bit k unknown) (bit-lt k unknown)
+          (λ z. omega (
+            arith,
+            ha .agrees k l (omega (arith, unknown-bit k)),
+            hb .agrees k l (omega (arith, unknown-bit k)),
+          ))
+          (λ z. omega (arith, bit-lt k (a .value), bit-lt k (b .value)))
+
+  module _ (e : bitOr (a .value) (bitOr (a .mask) (b .mask)) ≡ bitOr (b .value) (bitOr (a .mask) (b .mask))) where
+    abbrev met : Bits
+    met = record { value = bitOr (a .value) (b .value); mask = bitAnd (a .mask) (b .mask) }
+
+    same-value : (k : ℕ) → bit k (a .mask) ≡ 0 → bit k (b .mask) ≡ 0 → bit k (a .value) ≡ bit k (b .value)
+    same-value k p q =
+        let u : bit k unknown ≡ 0 = omega (arith, unknown-bit k) in
+        let f : max (bit k (a .value)) (bit k unknown) ≡ max (bit k (b .value)) (bit k unknown) =
+        sym (bit-or k (a .value) unknown) ∙ ap (bit k) e ∙ bit-or k (b .value) unknown in
+        omega arith
+
+    value-bit : (k : ℕ) → bit k (met .value) ≡ max (bit k (a .value)) (bit k (b .value))
+    value-bit k = bit-or k (a .value) (b .value)
+
+    mask-bit : (k : ℕ) → bit k (met .mask) ≡ min (bit k (a .mask)) (bit k (b .mask))
+    mask-bit k = bit-and k (a .mask) (b .mask)
+
+    -- where a pair knows the bit, it is the one of the meet
+    first-bit : (k : ℕ) → bit k (a .mask) ≡ 0 → bit k (met .value) ≡ bit k (a .value)
+    first-bit k z =
+        digit (bit k (b .mask)) (bit-lt k (b .mask)) (λ y. omega (arith, value-bit k, same-value k z y))
+        (λ y. omega (arith, value-bit k, apart-bit 64 b gb k))
+
+    second-bit : (k : ℕ) → bit k (b .mask) ≡ 0 → bit k (met .value) ≡ bit k (b .value)
+    second-bit k z =
+        digit (bit k (a .mask)) (bit-lt k (a .mask)) (λ y. omega (arith, value-bit k, same-value k y z))
+        (λ y. omega (arith, value-bit k, apart-bit 64 a ga k))
+
+    met-is-well : Well 64 met
+    met-is-well =
+        let hv = or-lt 64 (a .value) (b .value) (ga .value-fits) (gb .value-fits) in
+        let hm = and-lt 64 (a .mask) (b .mask) (ga .mask-fits) (gb .mask-fits) in
+        record {
+          value-fits = hv;
+          mask-fits = hm;
+          apart = ext 64 (bitAnd (met .value) (met .mask)) 0 (and-lt 64 (met .value) (met .mask) hv hm) (pow-pos 64)
+              (λ k l. omega (arith, bit-zero k, bit-and k (met .value) (met .mask), value-bit k, mask-bit k, apart-bit 64 a ga k, apart-bit 64 b gb k));
+        }
+
+    into : (x : ℕ) → Both a b x → Mem 64 met x
+    into x (ha, hb) =
+        record {
+          fits = ha .fits;
+          agrees = λ k l z. digit (bit k (a .mask)) (bit-lt k (a .mask)) (λ y. ha .agrees k l y ∙ sym (first-bit k y))
+              (λ y. let o : bit k (b .mask) ≡ 0 = omega (arith, mask-bit k, bit-lt k (b .mask)) in hb .agrees k l o ∙ sym (second-bit k o));
+        }
+
+    out : (x : ℕ) → Mem 64 met x → Both a b x
+    out x h = (
+      record { fits = h .fits; agrees = λ k l z. h .agrees k l (omega (arith, mask-bit k)) ∙ first-bit k z },
+      record { fits = h .fits; agrees = λ k l z. h .agrees k l (omega (arith, mask-bit k)) ∙ second-bit k z },
+    )
+
+    pub meet-keeps-both : Learns (Both a b) (Pair (record { value = bitOr (a .value) (b .value); mask = bitAnd (a .mask) (b .mask) }))
+    meet-keeps-both =
+        record {
+          answer = (same-numbers-is-best 64 (Both a b) met met-is-well into out, (met .value, out (met .value) (mem-least 64 met met-is-well)));
+        }

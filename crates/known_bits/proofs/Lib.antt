@@ -1,0 +1,15 @@
+pub mod Base
+pub mod ByCount
+pub mod Class4
+pub mod Computing
+pub mod CountLaws
+pub mod Covering
+pub mod Exact
+pub mod Joined
+pub mod Laws
+pub mod LearnLaws
+pub mod Methods
+pub mod Operations
+pub mod ProductLaws
+pub mod Refuted
+pub mod Tight

@@ -1,0 +1,5 @@
+pub mod Computed
+pub mod KnownBits
+pub mod Learn
+pub mod Masks
+pub mod Pair
