@@ -1,5 +1,7 @@
 pub mod Words
 pub mod Sizing
+pub mod Asking
+pub mod Serving
 pub mod Replies
 pub mod Texts
 pub mod Vectors

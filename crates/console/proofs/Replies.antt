@@ -1,6 +1,6 @@
 -- The reply to a run by what was read of it, and to a line by its verb; it needs no more of the stack than the length.
 -- Assumes nothing.
-use mathlib.Core.Bool.{Bool, true, false, cond}
+use mathlib.Core.Bool.{Bool, true, false, cond, true≢false}
 use mathlib.Core.List.{List}
 use mathlib.Core.Path.{_≡_, refl, sym, ap, _∙_}
 use Prim.Native.Nat.{ℕ, _-_, _≤_, _<_}
@@ -20,7 +20,8 @@ use Rattle.console.specs.declared.request.Sizes.the-variants as both
 use Rattle.console.specs.declared.answer.Reply.{Reply}
 use Rattle.console.specs.declared.answer.Reply.the-variants.{Ran, Bad}
 use Rattle.console.specs.Request.{part, Next, Filled, word, after, numbersOf}
-use Rattle.console.specs.Answer.{due, runReply, isRun, replyTo}
+use Rattle.console.specs.Answer.{due, runReply, isRun, replyTo, isBits, Told, Replied}
+use Rattle.console.specs.Bits.{askedOf}
 
 bad-bytes : (a : Numbers) (program rec stack : List ℕ) → Bad ≡ due a both.Not program rec stack
 unfolding due
@@ -78,6 +79,28 @@ module _ (line : List ℕ) (n k : ℕ) (stack : List ℕ) where
     pub reply-none : t ≡ false → Bad ≡ replyTo line n k stack
     reply-none h = reply-other (verb ∙ h)
 
+  no-bits : 70000 < length line → isBits line ≡ false
+  unfolding isBits
+  no-bits h = simp (lt-leb (length line) 70000 h)
+
+  pub replied-long : 70000 < length line → Replied line n k stack Bad
+  replied-long h =
+      record { other = λ e. reply-long h; bits = λ e. absurd (true≢false (sym e ∙ no-bits h)) }
+
+  -- the verb goes from start up to end, and t is the answer whether it is `kb`
+  module _ (l : length line ≤ 70000) (start end : ℕ) (g : Next line line start end) (t : Bool) (e : t ≡ equal (part line start end) (chars "kb")) where
+    bits-verb : isBits line ≡ t
+    unfolding isBits
+    bits-verb = simp (le-leb (length line) 70000 l) (sym (rw (g .here) at e))
+
+    pub replied-bits : t ≡ true → (r : Reply) → Told (askedOf (drop end line)) r → Replied line n k stack r
+    replied-bits h r d =
+        record { other = λ f. absurd (true≢false (sym (bits-verb ∙ h) ∙ f)); bits = λ f. rw (g .rest) at d }
+
+    pub replied-other : t ≡ false → (r : Reply) → r ≡ replyTo line n k stack → Replied line n k stack r
+    replied-other h r d =
+        record { other = λ f. d; bits = λ f. absurd (true≢false (sym f ∙ bits-verb ∙ h)) }
+
 -- ---- of the stack a reply needs the length alone
 
 refusal-alone : (b : Bool) (s t : List ℕ) (d : Done) → (cond b (record { outcome = Refused; stack = s }) d) .outcome ≡ (cond b (record { outcome = Refused; stack = t }) d) .outcome
@@ -100,3 +123,6 @@ module _ (s t : List ℕ) (e : length s ≡ length t) where
   pub same-reply : (line : List ℕ) (n k : ℕ) → replyTo line n k s ≡ replyTo line n k t
   unfolding replyTo runReply
   same-reply line n k = simp same-due
+
+  pub same-replied : (line : List ℕ) (n k : ℕ) (r : Reply) → Replied line n k s r → Replied line n k t r
+  same-replied line n k r g = record { other = λ f. g .other f ∙ same-reply line n k; bits = g .bits }

@@ -16,11 +16,11 @@ use Rattle.console.specs.declared.request.Sizes.the-variants as both
 use Rattle.console.specs.Request.{part, Next, Filled, word, after, blank, two, sizesOf, Fit, Kept}
 
 module _ (line : List ℕ) (end q : ℕ) (a : Stop line end (leading 32 (drop end line)) q) where
-  more-words : q < length line → blank (drop end line) ≡ false
+  pub more-words : q < length line → blank (drop end line) ≡ false
   unfolding blank
   more-words h = ne-eqb (leading 32 (drop end line)) (length (drop end line)) (λ e. omega (arith, length-drop end line))
 
-  no-words : length line ≤ q → blank (drop end line) ≡ true
+  pub no-words : length line ≤ q → blank (drop end line) ≡ true
   unfolding blank
   no-words h = eq-eqb (leading 32 (drop end line)) (length (drop end line)) (omega (arith, length-drop end line))
 

@@ -7,8 +7,9 @@ use lib.ListN.{length, length-append}
 use Rattle.machine.specs.declared.outcome.Outcome.the-variants.{Verdict, Fault, Budget, Refused}
 use Rattle.text.specs.Buffer.{chars, decimal}
 use Rattle.text.proofs.Decimals.{decimal-short}
+use Rattle.text.proofs.Hexadecimals.{hexadecimal-short}
 use Rattle.console.specs.declared.answer.Reply.{Reply}
-use Rattle.console.specs.declared.answer.Reply.the-variants.{Ran, Bad}
+use Rattle.console.specs.declared.answer.Reply.the-variants.{Ran, Pair, Bad}
 use Rattle.console.specs.Answer.{numberOf, outcomeText, replyText, answerText}
 
 pair-short : (w : List ℕ) (a b : ℕ) → length w ≤ 8 → length (w ++ decimal a ++ chars " " ++ decimal b) ≤ 49
@@ -20,6 +21,7 @@ reply-short (Ran (Verdict value steps)) = pair-short (chars "verdict ") value st
 reply-short (Ran (Fault cause at steps)) = pair-short (chars "fault ") (numberOf cause) steps (omega arith)
 reply-short (Ran (Budget steps)) = simp length-append (omega (arith, decimal-short steps))
 reply-short (Ran Refused) = omega arith
+reply-short (Pair p) = simp length-append (omega (arith, hexadecimal-short (p .value), hexadecimal-short (p .mask)))
 reply-short Bad = omega arith
 
 pub answer-short : (r : Reply) → length (answerText r) ≤ 50

@@ -5,8 +5,12 @@ ghost use mathlib.Core.Path.{_≡_};
 ghost use Prim.Native.Nat.{_≤_};
 ghost use lib.ListN.{length, take, drop};
 ghost use Rattle.machine.specs.Machine.{interpreted};
-ghost use Rattle.text.specs.Buffer.{Put, chars, decimal};
-ghost use Rattle.console.specs.Answer.{runReply, replyTo, numberOf, outcomeText, replyText, answerText};
+ghost use Rattle.text.specs.Buffer.{Put, chars, decimal, hexadecimal};
+ghost use Rattle.console.specs.Answer.{Told, Replied, Responded, runReply, numberOf, outcomeText, replyText};
+ghost use Rattle.console.specs.Bits.{askedOf};
+use crate::bits::Asked;
+use crate::bits::read_asked;
+use crate::bits::work;
 use crate::request::Numbers;
 use crate::request::Sizes;
 use crate::request::is_word;
@@ -15,10 +19,12 @@ use crate::request::past_four;
 use crate::request::read_bytes;
 use crate::request::read_numbers;
 use interpreter::interpret;
+use known_bits::Bits;
 use machine::outcome::Cause;
 use machine::outcome::Outcome;
 use text::buffer::put;
 use text::buffer::put_decimal;
+use text::buffer::put_hexadecimal;
 use text::buffer::put_text;
 
 // A line with more characters is no request, whatever it says.
@@ -27,6 +33,7 @@ pub const LONGEST: usize = 70000;
 // What a request comes to.
 pub enum Reply {
     Ran(Outcome),
+    Pair(Bits),
     Bad,
 }
 
@@ -66,15 +73,30 @@ fn run(line: &[u8], from: usize, program: &mut [u8], rec: &mut [u8], stack: &mut
     Reply::Ran(execute(program, n, rec, k, p, s, stack, budget))
 }
 
+// OP WIDTH v/m v/m from `from` on.
+fn bits(line: &[u8], from: usize) -> Reply
+    requires { ⌜ from ≤ length (now line) ⌝ }
+    ensures { λ r. ⌜ Told (askedOf (drop from (now (line .entry)))) r ⌝ }
+{
+    let asked = read_asked(line, from);
+    let Asked::For { task, width, a, b } = asked else {
+        return Reply::Bad;
+    };
+    Reply::Pair(work(task, width, a, b))
+}
+
 // The first word is the verb, and each verb has its function.
 fn reply_to(line: &[u8], program: &mut [u8], rec: &mut [u8], stack: &mut [u8]) -> Reply
-    ensures { λ r. ⌜ r ≡ replyTo (now (line .entry)) (length (now (program .entry))) (length (now (rec .entry))) (now (stack .entry)) ⌝ }
+    ensures { λ r. ⌜ Replied (now (line .entry)) (length (now (program .entry))) (length (now (rec .entry))) (now (stack .entry)) r ⌝ }
 {
     if line.len() > LONGEST {
         return Reply::Bad;
     }
     let verb = next_word(line, 0);
     let end = verb.end;
+    if is_word(line, verb, b"kb") {
+        return bits(line, end);
+    }
     if is_word(line, verb, b"run") {
         return run(line, end, program, rec, stack);
     }
@@ -121,11 +143,20 @@ fn put_outcome(out: &mut [u8], at: usize, outcome: Outcome) -> usize
     }
 }
 
+fn put_bits(out: &mut [u8], at: usize, value: u64, mask: u64) -> usize
+    ensures { λ r. ⌜ Put (now (out .entry)) at (hexadecimal value ++ chars "/" ++ hexadecimal mask) (now (out .exit)) r ⌝ }
+{
+    let i = put_hexadecimal(out, at, value);
+    let j = put(out, i, b'/');
+    put_hexadecimal(out, j, mask)
+}
+
 fn put_reply(out: &mut [u8], at: usize, reply: Reply) -> usize
     ensures { λ r. ⌜ Put (now (out .entry)) at (replyText reply) (now (out .exit)) r ⌝ }
 {
     match reply {
         Reply::Ran(outcome) => put_outcome(out, at, outcome),
+        Reply::Pair(p) => put_bits(out, at, p.value, p.mask),
         Reply::Bad => put_text(out, at, b"error"),
     }
 }
@@ -140,7 +171,7 @@ pub fn respond(
     out: &mut [u8],
     at: usize,
 ) -> usize
-    ensures { λ r. ⌜ Put (now (out .entry)) at (answerText (replyTo (now (line .entry)) (length (now (program .entry))) (length (now (rec .entry))) (now (stack .entry)))) (now (out .exit)) r ⌝ }
+    ensures { λ r. ⌜ Responded (now (line .entry)) (length (now (program .entry))) (length (now (rec .entry))) (now (stack .entry)) (now (out .entry)) at (now (out .exit)) r ⌝ }
 {
     let reply = reply_to(line, program, rec, stack);
     let end = put_reply(out, at, reply);

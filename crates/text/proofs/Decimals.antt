@@ -12,7 +12,7 @@ use borrow.Author.Tests.{lt-ltb, le-ltb}
 use Rattle.io.specs.Digits.{digits}
 use Rattle.text.specs.Buffer.{lastDigits, decimal, Put}
 
-one-digit-more : (b : Bool) (s : List ℕ) (d k : ℕ) → length s ≤ k → length (cond b [] s ++ (d ∷ [])) ≤ suc k
+pub one-digit-more : (b : Bool) (s : List ℕ) (d k : ℕ) → length s ≤ k → length (cond b [] s ++ (d ∷ [])) ≤ suc k
 one-digit-more true s d k h = omega arith
 one-digit-more false s d k h = simp length-append (omega arith)
 

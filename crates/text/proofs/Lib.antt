@@ -4,4 +4,6 @@ pub mod Numbers
 pub mod Pairing
 pub mod Puts
 pub mod Decimals
+pub mod Hexadecimals
+pub mod Pairs
 pub mod Vectors

@@ -9,7 +9,10 @@ use Rattle.text.specs.declared.hex.Bytes.the-variants.{Are, Not}
 use Rattle.text.specs.Digit.{among, digit}
 use Rattle.text.specs.Number.{digits, value, numberFrom, number, marked, numeral}
 use Rattle.text.specs.Hex.{fitting, paired, dash, spelled, bytesOf}
-use Rattle.text.specs.Buffer.{chars, lastDigits, decimal}
+use Rattle.text.specs.declared.pair.Pair.the-variants as a-pair
+use Rattle.text.specs.Scan.{other}
+use Rattle.text.specs.Pair.{joined, pair}
+use Rattle.text.specs.Buffer.{chars, lastDigits, decimal, glyph, lastSixteens, hexadecimal}
 
 -- 18446744073709551615 and the number after it, without their last digit
 most : ℕ → List ℕ
@@ -91,3 +94,23 @@ zero-in-decimal = refl
 largest-in-decimal : decimal (2 ^ 64 - 1) ≡ chars "18446744073709551615"
 unfolding decimal lastDigits
 largest-in-decimal = refl
+
+zero-is-one-digit : hexadecimal 0 ≡ chars "0"
+unfolding hexadecimal lastSixteens glyph
+zero-is-one-digit = refl
+
+fifteen-digits : hexadecimal 81985529216486895 ≡ chars "123456789abcdef"
+unfolding hexadecimal lastSixteens glyph
+fifteen-digits = refl
+
+two-numbers : pair (chars "0F/a0") ≡ a-pair.Is 15 160
+unfolding pair joined other number numberFrom digits value digit among
+two-numbers = refl
+
+three-numbers : pair (chars "1/2/3") ≡ a-pair.Not
+unfolding pair joined other number numberFrom digits value digit among
+three-numbers = refl
+
+no-second-number : pair (chars "1/") ≡ a-pair.Not
+unfolding pair joined other number numberFrom digits value digit among
+no-second-number = refl

@@ -1,4 +1,4 @@
--- Text put into a buffer, and numbers written in decimal.
+-- Text put into a buffer, and numbers written in decimal and in hexadecimal.
 -- Assumes nothing.
 use mathlib.Core.Bool.{cond}
 use mathlib.Core.List.{List, [], _∷_, _++_}
@@ -23,6 +23,19 @@ lastDigits (suc k) n = cond (ltb n 10) [] (lastDigits k (n / 10)) ++ ((48 + n % 
 -- n in decimal, where it is below 10 ^ 20
 unfoldable pub decimal : ℕ → List ℕ
 decimal n = lastDigits 20 n
+
+-- the character of a digit below 16: 0 to 9, then a to f
+unfoldable pub glyph : ℕ → ℕ
+glyph d = cond (ltb d 10) (48 + d) (87 + d)
+
+-- n in hexadecimal, the highest digit first; of more than k digits the last k
+unfoldable pub lastSixteens : ℕ → ℕ → List ℕ
+lastSixteens zero n = []
+lastSixteens (suc k) n = cond (ltb n 16) [] (lastSixteens k (n / 16)) ++ (glyph (n % 16) ∷ [])
+
+-- n in hexadecimal, where it is below 2 ^ 64
+unfoldable pub hexadecimal : ℕ → List ℕ
+hexadecimal n = lastSixteens 16 n
 
 -- out′ is out with the text t from the index at on, as far as there is room: sets stores a character after the other, and
 -- changes nothing outside out. r is the index after what was put, at itself where at is beyond out

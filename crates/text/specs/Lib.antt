@@ -1,5 +1,6 @@
 pub mod Scan
 pub mod Digit
 pub mod Number
+pub mod Pair
 pub mod Hex
 pub mod Buffer

@@ -1,7 +1,7 @@
 // Text put into a lent buffer from an index on. What finds no room is left out, so an answer that is the buffer's length may be cut.
 // Assumes nothing.
 ghost use mathlib.Core.List.{[], _∷_};
-ghost use Rattle.text.specs.Buffer.{Put, decimal};
+ghost use Rattle.text.specs.Buffer.{Put, decimal, hexadecimal};
 
 // Puts one character at `at`, and answers the index after it.
 pub fn put(out: &mut [u8], at: usize, b: u8) -> usize
@@ -33,5 +33,14 @@ pub fn put_decimal(out: &mut [u8], at: usize, n: u64) -> usize
 {
     let mut digits = [0u8; 20];
     let k = io::decimal(n, &mut digits);
+    put_text(out, at, &digits[..k])
+}
+
+// Puts `n` in hexadecimal from `at` on, in lower case and with no zero in front, and answers the index after it.
+pub fn put_hexadecimal(out: &mut [u8], at: usize, n: u64) -> usize
+    ensures { λ r. ⌜ Put (now (out .entry)) at (hexadecimal n) (now (out .exit)) r ⌝ }
+{
+    let mut digits = [0u8; 16];
+    let k = io::hex(n, 0, &mut digits);
     put_text(out, at, &digits[..k])
 }

@@ -4,4 +4,5 @@ pub mod buffer;
 pub mod digit;
 pub mod hex;
 pub mod number;
+pub mod pair;
 pub mod scan;

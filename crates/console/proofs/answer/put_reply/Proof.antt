@@ -11,11 +11,16 @@ returns c = rw (c .before .before .before .before .before .reply .given .1) (c .
 
 returns-2 : tie.Need-returns-2
 unfolding replyText
-returns-2 c = rw (c .before .before .before .before .before .enum-told .given .1) (c .before .before .put-text .ensures)
+returns-2 c = rw (c .before .before .before .before .before .reply2 .given .1) (c .before .before .put-bits .ensures)
+
+returns-3 : tie.Need-returns-3
+unfolding replyText
+returns-3 c = rw (c .before .before .before .before .before .enum-told .given .1) (c .before .before .put-text .ensures)
 
 pub put-reply-spec : {M : Type 1} → statement M
 put-reply-spec =
     tie.close
     (tie.spec
-    (λ c. search needs) (λ c κs. search needs) (λ c. search needs) (λ c. search needs) (λ c κs. search needs)
-    (λ c. search needs) returns (λ c. search needs) returns-2)
+    (λ c. search needs) (λ c κs. search needs) (λ c. search needs) (λ c κs. search needs) (λ c. search needs)
+    (λ c. search needs) (λ c κs. search needs) (λ c. search needs) returns (λ c. search needs) returns-2
+    (λ c. search needs) returns-3)
