@@ -1,19 +1,26 @@
--- What pairs and masks are good for: a mask that covers all results is a sound pair, a pair may be cut and shifted, and a pair with
--- exactly the numbers of a set is its best. Assumes nothing.
-use mathlib.Core.Path.{_≡_, refl, sym, ap, _∙_}
-use Prim.Native.Nat.{ℕ, zero, suc, _+_, _/_, _%_, _^_, _≤_, _<_}
-use native.Mathlib.Nat.{mod-lt, mod-le, mod-eq-of-lt, zero-div, zero-mod, lt-of-le-of-lt, lt-of-lt-of-le}
+-- What pairs and masks are good for: a mask that covers all results is a sound pair, and a pair with exactly the numbers of a set is
+-- its best. Assumes nothing.
+use mathlib.Core.Bool.{Bool, true, false, cond}
+use mathlib.Core.Path.{_≡_, refl, sym, _∙_}
+use Prim.Native.Nat.{ℕ, _%_, _^_, _≤_, _<_}
+use native.Mathlib.Nat.{mod-lt, mod-eq-of-lt, lt-of-lt-of-le}
 use native.Mathlib.Decide.{decLt}
 use native.Mathlib.Omega.{arith}
-use lib.Bits.{bitAnd, or-lt, and-shr, and-mod, and-zero-l}
-use lib.Pow.{pow-pos, pow-mono, shr-le}
+use lib.Bits.{bitAnd, or-lt, and-zero-l}
+use lib.Pow.{pow-pos, pow-mono}
 use Rattle.word.specs.Word.{bit}
-use Rattle.word.proofs.Bit.{bit-lt, bit-zero, bit-and, bit-or, bit-mod, bit-high, bit-shr, low-le, ext}
+use Rattle.word.proofs.Bit.{bit-lt, bit-zero, bit-and, bit-or, bit-mod, bit-high, low-le}
 use Rattle.known_bits.specs.declared.Bits.{Bits}
+use Rattle.known_bits.specs.Formula.{among}
 use Rattle.known_bits.specs.KnownBits.{Well, Mem, Sound, Best}
-use Rattle.known_bits.specs.Masks.{Covers, Below, lowBits}
+use Rattle.known_bits.specs.Masks.{Covers, Below}
 use Rattle.known_bits.specs.Pair.{top}
 use Rattle.known_bits.proofs.Tight.{digit, mem-low}
+
+-- what holds of both arms of a test holds of the test
+pub by-cases {ℓ} : {A : Type 0} (P : A → Type ℓ) (t : Bool) {x y : A} → (t ≡ true → P x) → (t ≡ false → P y) → P (cond t x y)
+by-cases P true f g = f refl
+by-cases P false f g = g refl
 
 -- ---- the numbers of a pair
 module _ (w : ℕ) (p : Bits) (g : Well w p) where
@@ -32,11 +39,9 @@ module _ (w : ℕ) (p : Bits) (g : Well w p) where
 pub top-is-below : (n : ℕ) (p : Bits) → Below n p → top p < 2 ^ n
 top-is-below n p h = or-lt n (p .value) (p .mask) (h .value-below) (h .mask-below)
 
-pub mask-is-below : (n m : ℕ) → m < 2 ^ n → Below n (record { value = 0; mask = m })
-mask-is-below n m h = record { value-below = pow-pos n; mask-below = h }
-
-pub low-is-below : (n : ℕ) (p : Bits) → Below n (lowBits n p)
-low-is-below n p = record { value-below = mod-lt (p .value) (pow-pos n); mask-below = mod-lt (p .mask) (pow-pos n) }
+pub among-is-below : (n m : ℕ) → m < 2 ^ n → Below n (among m)
+unfolding among
+among-is-below n m h = record { value-below = pow-pos n; mask-below = h }
 
 -- ---- masks that cover
 module _ (m x : ℕ) (h : Covers m x) where
@@ -62,8 +67,8 @@ both-cover m n x h g =
       zeros = λ k z. digit (bit k m) (bit-lt k m) (h .zeros k) (λ e. g .zeros k (omega (arith, bit-and k m n, bit-lt k n)));
     }
 
-pub covered-is-sound : (w : ℕ) (S : ℕ → Type 0) (m : ℕ) → m < 2 ^ w → ((x : ℕ) → S x → (x < 2 ^ w) × Covers m x)
-    → Sound w S (record { value = 0; mask = m })
+pub covered-is-sound : (w : ℕ) (S : ℕ → Type 0) (m : ℕ) → m < 2 ^ w → ((x : ℕ) → S x → (x < 2 ^ w) × Covers m x) → Sound w S (among m)
+unfolding among
 covered-is-sound w S m l h =
     record {
       well = record { value-fits = pow-pos w; mask-fits = l; apart = and-zero-l m };
@@ -75,43 +80,3 @@ pub same-numbers-is-best : (w : ℕ) (S : ℕ → Type 0) (p : Bits) → Well w 
     → Best w S p
 same-numbers-is-best w S p g there back =
     record { well = g; sound = there; least = λ q gq hq x hx. hq x (back x hx) }
-
--- ---- the low bits of a pair
-module _ (w n : ℕ) (p : Bits) (g : Well w p) where
-  pub low-is-well : Well w (lowBits n p)
-  low-is-well =
-      record {
-        value-fits = lt-of-le-of-lt (mod-le (p .value) (2 ^ n)) (g .value-fits);
-        mask-fits = lt-of-le-of-lt (mod-le (p .mask) (2 ^ n)) (g .mask-fits);
-        apart = sym (and-mod (p .value) (p .mask) n) ∙ ap (λ (x : ℕ). x % 2 ^ n) (g .apart) ∙ zero-mod (2 ^ n);
-      }
-
-  pub low-has-the-cuts : (x : ℕ) → Mem w p x → Mem w (lowBits n p) (x % 2 ^ n)
-  low-has-the-cuts x h = record { fits = lt-of-le-of-lt (mod-le x (2 ^ n)) (h .fits); agrees = λ k l z. go k l z (decLt k n) }
-    where
-      high : (k y : ℕ) → ¬ (k < n) → bit k (y % 2 ^ n) ≡ 0
-      high k y i = bit-high k (y % 2 ^ n) (lt-of-lt-of-le (mod-lt y (pow-pos n)) (pow-mono (omega arith)))
-
-      go : (k : ℕ) → k < w → bit k (p .mask % 2 ^ n) ≡ 0 → Dec (k < n) → bit k (x % 2 ^ n) ≡ bit k (p .value % 2 ^ n)
-      go k l z (yes i) = bit-mod n k x i ∙ h .agrees k l (sym (bit-mod n k (p .mask) i) ∙ z) ∙ sym (bit-mod n k (p .value) i)
-      go k l z (no i) = high k x i ∙ sym (high k (p .value) i)
-
--- ---- a pair shifted down
-module _ (w n : ℕ) (p : Bits) (g : Well w p) where
-  pub shifted-is-well : Well w (record { value = p .value / 2 ^ n; mask = p .mask / 2 ^ n })
-  shifted-is-well =
-      record {
-        value-fits = lt-of-le-of-lt (shr-le (p .value) n) (g .value-fits);
-        mask-fits = lt-of-le-of-lt (shr-le (p .mask) n) (g .mask-fits);
-        apart = sym (and-shr (p .value) (p .mask) n) ∙ ap (λ (x : ℕ). x / 2 ^ n) (g .apart) ∙ zero-div (2 ^ n);
-      }
-
-  pub shifted-has-the-quotients : (x : ℕ) → Mem w p x → Mem w (record { value = p .value / 2 ^ n; mask = p .mask / 2 ^ n }) (x / 2 ^ n)
-  shifted-has-the-quotients x h = record { fits = lt-of-le-of-lt (shr-le x n) (h .fits); agrees = λ k l z. go k z (decLt (n + k) w) }
-    where
-      high : (k y : ℕ) → y < 2 ^ w → ¬ (n + k < w) → bit (n + k) y ≡ 0
-      high k y l i = bit-high (n + k) y (lt-of-lt-of-le l (pow-mono (omega arith)))
-
-      go : (k : ℕ) → bit k (p .mask / 2 ^ n) ≡ 0 → Dec (n + k < w) → bit k (x / 2 ^ n) ≡ bit k (p .value / 2 ^ n)
-      go k z (yes l) = bit-shr n k x ∙ h .agrees (n + k) l (sym (bit-shr n k (p .mask)) ∙ z) ∙ sym (bit-shr n k (p .value))
-      go k z (no i) = bit-shr n k x ∙ high k x (h .fits) i ∙ sym (bit-shr n k (p .value) ∙ high k (p .value) (g .value-fits) i)

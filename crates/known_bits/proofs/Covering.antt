@@ -5,14 +5,15 @@ use Prim.Native.Nat.{ℕ, zero, suc, _+_, _-_, _*_, _/_, _%_, _^_, _≤_, _<_}
 use native.Mathlib.Nat.{mod-lt, zero-mod, lt-of-lt-of-le, lt-of-le-of-lt, mul-mod-left, mod-self}
 use native.Mathlib.Decide.{decLt}
 use native.Mathlib.Omega.{arith}
-use lib.Count.{leadingZeros, leading-length, trailingZeros, under}
+use lib.Count.{leadingZeros, leading-length, leading-of-zero, trailingZeros, under}
 use lib.Pow.{high, pow-pos, pow-add, pow-mono, ones-lt, ones-split, split}
-use lib.Bits.{bitAnd, bitOr, and-mod, or-mod, and-zero-l}
+use lib.Dec.{ltb}
+use borrow.Author.Tests.{ltb-false}
 use Rattle.word.specs.Word.{bit}
 use Rattle.word.proofs.Bit.{bit-zero, bit-mod, bit-high, bit-not, bit-shr, bit-shl, low-eq}
-use Rattle.known_bits.specs.declared.Bits.{Bits}
-use Rattle.known_bits.specs.Masks.{Covers, Multiple}
-use Rattle.known_bits.specs.Pair.{top}
+use Rattle.known_bits.specs.Formula.{upTo, fromBit}
+use Rattle.known_bits.specs.Masks.{Covers}
+use Rattle.known_bits.proofs.Base.{by-cases}
 
 -- ---- all bits below n
 pub bit-of-ones : (n k : ℕ) → k < n → bit k (2 ^ n - 1) ≡ 1
@@ -26,6 +27,10 @@ ones-cover-all-below n x h = record { zeros = λ k z. go k z (decLt k n) }
     go k z (no i) = bit-high k x (lt-of-lt-of-le h (pow-mono (omega arith)))
 
 -- ---- up to the highest bit of t
+pub up-to-none : upTo 0 ≡ 0
+unfolding upTo
+up-to-none = ap (λ (n : ℕ). (2 ^ 64 - 1) / 2 ^ n) (leading-of-zero 64)
+
 module _ (t : ℕ) (h : t < 2 ^ 64) where
   pub leading-zeros-below-64 : 0 < t → leadingZeros 64 t < 64
   leading-zeros-below-64 p = let s = leading-length 64 t h in go (s .0) (s .1) (s .2)
@@ -46,12 +51,14 @@ module _ (t : ℕ) (h : t < 2 ^ 64) where
         s .3,
       )
 
-  pub ones-to-the-highest-bit-cover : (x : ℕ) → x ≤ t → Covers ((2 ^ 64 - 1) / 2 ^ leadingZeros 64 t) x
-  ones-to-the-highest-bit-cover x l =
+  pub up-to-covers : (x : ℕ) → x ≤ t → Covers (upTo t) x
+  unfolding upTo
+  up-to-covers x l =
       let s = ones-of in subst (λ (m : ℕ). Covers m x) (sym (s .1)) (ones-cover-all-below (s .0) x (lt-of-le-of-lt l (s .2)))
 
-  pub ones-to-the-highest-bit-are-no-longer : (n : ℕ) → t < 2 ^ n → (2 ^ 64 - 1) / 2 ^ leadingZeros 64 t < 2 ^ n
-  ones-to-the-highest-bit-are-no-longer n l =
+  pub up-to-is-no-longer : (n : ℕ) → t < 2 ^ n → upTo t < 2 ^ n
+  unfolding upTo
+  up-to-is-no-longer n l =
       let s = ones-of in subst (λ (m : ℕ). m < 2 ^ n) (sym (s .1)) (go (s .0) (s .3) (decLt n (s .0)))
     where
       go : (k : ℕ) → 2 ^ k ≤ 2 * t + 1 → Dec (n < k) → 2 ^ k - 1 < 2 ^ n
@@ -61,7 +68,7 @@ module _ (t : ℕ) (h : t < 2 ^ 64) where
       go k b (no i) = let p : 2 ^ k ≤ 2 ^ n = pow-mono (omega arith) in omega (arith, pow-pos k)
 
 -- ---- the low zeros
-low-bits-are-zero : (k n j : ℕ) → j < trailingZeros k n → bit j n ≡ 0
+pub low-bits-are-zero : (k n j : ℕ) → j < trailingZeros k n → bit j n ≡ 0
 unfolding trailingZeros bit
 low-bits-are-zero zero n j l = absurd (omega arith)
 low-bits-are-zero (suc k) n j l = go (low-bits-are-zero k (n / 2)) (n % 2) refl j l
@@ -104,14 +111,14 @@ module _ (n x : ℕ) (h : x % 2 ^ n ≡ 0) where
   low-of-multiple : (k : ℕ) → k < n → bit k x ≡ 0
   low-of-multiple k l = sym (bit-mod n k x l) ∙ ap (bit k) h ∙ bit-zero k
 
-  pub no-bit-of-a-multiple-of-more : 64 ≤ n → Covers 0 (x % 2 ^ 64)
+  no-bit-of-a-multiple-of-more : 64 ≤ n → Covers 0 (x % 2 ^ 64)
   no-bit-of-a-multiple-of-more g = record { zeros = λ k z. go k (decLt k 64) }
     where
       go : (k : ℕ) → Dec (k < 64) → bit k (x % 2 ^ 64) ≡ 0
       go k (yes l) = bit-mod 64 k x l ∙ low-of-multiple k (omega arith)
       go k (no i) = bit-high k (x % 2 ^ 64) (lt-of-lt-of-le (mod-lt x (pow-pos 64)) (pow-mono {i = 64} (omega arith)))
 
-  pub shifted-ones-cover-multiples : Covers (((2 ^ 64 - 1) * 2 ^ n) % 2 ^ 64) (x % 2 ^ 64)
+  shifted-ones-cover-multiples : Covers (((2 ^ 64 - 1) * 2 ^ n) % 2 ^ 64) (x % 2 ^ 64)
   shifted-ones-cover-multiples = record { zeros = λ k z. go k z (decLt k 64) (decLt k n) }
     where
       go : (k : ℕ) → bit k (((2 ^ 64 - 1) * 2 ^ n) % 2 ^ 64) ≡ 0 → Dec (k < 64) → Dec (k < n) → bit k (x % 2 ^ 64) ≡ 0
@@ -123,6 +130,12 @@ module _ (n x : ℕ) (h : x % 2 ^ n ≡ 0) where
           ∙ bit-shl n (k - n) (2 ^ 64 - 1) ∙ bit-of-ones 64 (k - n) (omega arith) in
           absurd (omega arith)
       go k z (no l) i = bit-high k (x % 2 ^ 64) (lt-of-lt-of-le (mod-lt x (pow-pos 64)) (pow-mono {i = 64} (omega arith)))
+
+  pub from-bit-covers : Covers (fromBit n) (x % 2 ^ 64)
+  unfolding fromBit
+  from-bit-covers =
+      by-cases (λ (m : ℕ). Covers m (x % 2 ^ 64)) (ltb n 64) (λ e. shifted-ones-cover-multiples)
+      (λ e. no-bit-of-a-multiple-of-more (ltb-false n 64 e))
 
 -- ---- products of multiples
 pub zeros-of-a-product : (x y i j : ℕ) → x % 2 ^ i ≡ 0 → y % 2 ^ j ≡ 0 → (x * y) % 2 ^ (i + j) ≡ 0
@@ -137,26 +150,6 @@ zeros-of-a-product x y i j p q =
 
 pub zeros-of-fewer : (x m n : ℕ) → m ≤ n → x % 2 ^ n ≡ 0 → x % 2 ^ m ≡ 0
 zeros-of-fewer x m n l h = low-eq m x 0 (λ j i. low-of-multiple n x h j (omega arith) ∙ sym (bit-zero j)) ∙ zero-mod (2 ^ m)
-
-pub cut-keeps-zeros : (w x n : ℕ) → x % 2 ^ n ≡ 0 → (x % 2 ^ w) % 2 ^ n ≡ 0
-cut-keeps-zeros w x n h = low-eq n (x % 2 ^ w) 0 (λ j l. go j l (decLt j w) ∙ sym (bit-zero j)) ∙ zero-mod (2 ^ n)
-  where
-    go : (j : ℕ) → j < n → Dec (j < w) → bit j (x % 2 ^ w) ≡ 0
-    go j l (yes i) = bit-mod w j x i ∙ low-of-multiple n x h j l
-    go j l (no i) = bit-high j (x % 2 ^ w) (lt-of-lt-of-le (mod-lt x (pow-pos w)) (pow-mono (omega arith)))
-
-pub and-keeps-zeros : (m x n : ℕ) → m % 2 ^ n ≡ 0 → bitAnd m x % 2 ^ n ≡ 0
-and-keeps-zeros m x n h = and-mod m x n ∙ ap (λ (u : ℕ). bitAnd u (x % 2 ^ n)) h ∙ and-zero-l (x % 2 ^ n)
-
-pub top-keeps-zeros : (n : ℕ) (p : Bits) → Multiple n p → top p % 2 ^ n ≡ 0
-top-keeps-zeros n p h = or-mod (p .value) (p .mask) n ∙ ap₂ bitOr (h .value-multiple) (h .mask-multiple)
-
-pub no-bit-has-all-zeros : (k : ℕ) → 0 % 2 ^ k ≡ 0
-no-bit-has-all-zeros k = zero-mod (2 ^ k)
-
-pub shifted-ones-have-low-zeros : (n k : ℕ) → k ≤ n → (((2 ^ 64 - 1) * 2 ^ n) % 2 ^ 64) % 2 ^ k ≡ 0
-shifted-ones-have-low-zeros n k l =
-    cut-keeps-zeros 64 ((2 ^ 64 - 1) * 2 ^ n) k (zeros-of-fewer ((2 ^ 64 - 1) * 2 ^ n) k n l (mul-mod-left (2 ^ 64 - 1) (2 ^ n)))
 
 pub zeros-of-a-shift : (x i n c : ℕ) → n ≤ c → x % 2 ^ i ≡ 0 → (x * 2 ^ c) % 2 ^ (i + n) ≡ 0
 zeros-of-a-shift x i n c l h =

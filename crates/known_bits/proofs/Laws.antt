@@ -59,12 +59,15 @@ module _ (a b r : Bits) (s : Sound 64 (Either a b) r) (x : ℕ) where
   join-covers-right h = s .sound x (inr h)
 
 -- ---- a pair of v bits is one of w bits
+pub number-wider : (v w : ℕ) → v ≤ w → {x : ℕ} → x < 2 ^ v → x < 2 ^ w
+number-wider v w h hx = le-trans hx (pow-mono h)
+
 pub high-bit : (v k x : ℕ) → ¬ (k < v) → x < 2 ^ v → bit k x ≡ 0
 high-bit v k x n hx = bit-high k x (le-trans hx (pow-mono (omega arith)))
 
 module _ (v w : ℕ) (h : v ≤ w) (p : Bits) (g : Well v p) where
   pub well-wider : Well w p
-  well-wider = record { value-fits = le-trans (g .value-fits) (pow-mono h); mask-fits = le-trans (g .mask-fits) (pow-mono h); apart = g .apart }
+  well-wider = record { value-fits = number-wider v w h (g .value-fits); mask-fits = number-wider v w h (g .mask-fits); apart = g .apart }
 
   pub mem-wider : (x : ℕ) → Mem v p x → Mem w p x
   mem-wider x m = record { fits = le-trans (m .fits) (pow-mono h); agrees = λ k l e. go k e (decLt k v) }

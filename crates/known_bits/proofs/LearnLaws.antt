@@ -7,16 +7,17 @@ use native.Mathlib.Omega.{arith}
 use lib.Bits.{bitAnd, bitOr, bitXor, and-lt, or-lt, xor-lt}
 use lib.Dec.{eqb}
 use lib.Pow.{pow-pos}
-use borrow.Author.Tests.{eqb-true, eq-eqb}
+use borrow.Author.Tests.{eqb-true, eqb-false, eq-eqb}
 use Rattle.word.specs.Word.{bit, compare}
 use Rattle.word.specs.declared.Comparison.the-variants as comparison
 use Rattle.word.proofs.Bit.{bit-lt, bit-zero, bit-and, bit-or, bit-xor, ext}
 use Rattle.word.proofs.Cut.{cut-64}
 use Rattle.known_bits.specs.declared.Bits.{Bits}
 use Rattle.known_bits.specs.declared.learn.Learnt.the-variants.{Pair, Nothing}
+use Rattle.known_bits.specs.Formula.{cleared, met}
 use Rattle.known_bits.specs.KnownBits.{Well, Mem, Both, Apart}
 use Rattle.known_bits.specs.Learn.{Learns}
-use Rattle.known_bits.proofs.Base.{same-numbers-is-best}
+use Rattle.known_bits.proofs.Base.{by-cases, same-numbers-is-best}
 use Rattle.known_bits.proofs.Tight.{digit, apart-bit, mem-low, mem-least}
 
 -- ---- JSET
@@ -35,7 +36,7 @@ module _ (a : Bits) (s : ℕ) (hs : s < 2 ^ 64) (ga : Well 64 a) where
   no-shared-digit : (x : ℕ) → bitAnd x s ≡ 0 → (k : ℕ) → min (bit k x) (bit k s) ≡ 0
   no-shared-digit x z k = sym (bit-and k x s) ∙ ap (bit k) z ∙ bit-zero k
 
-  pub a-shared-known-bit-leaves-nothing : (bitAnd (a .value) s ≡ 0 → ⊥) → Learns (Apart a s) Nothing
+  a-shared-known-bit-leaves-nothing : (bitAnd (a .value) s ≡ 0 → ⊥) → Learns (Apart a s) Nothing
   a-shared-known-bit-leaves-nothing n =
       record {
         answer = λ x i. n (ext 64 (bitAnd (a .value) s) 0 (and-lt 64 (a .value) s (ga .value-fits) hs) (pow-pos 64)
@@ -58,11 +59,11 @@ module _ (a : Bits) (s : ℕ) (hs : s < 2 ^ 64) (ga : Well 64 a) where
     left-fits : left < 2 ^ 64
     left-fits = xor-lt 64 _ s (or-lt 64 (a .mask) s (ga .mask-fits) hs) hs
 
-    abbrev cleared : Bits
-    cleared = record { value = a .value; mask = left }
+    abbrev rest : Bits
+    rest = record { value = a .value; mask = left }
 
-    cleared-is-well : Well 64 cleared
-    cleared-is-well =
+    rest-is-well : Well 64 rest
+    rest-is-well =
         record {
           value-fits = ga .value-fits;
           mask-fits = left-fits;
@@ -70,7 +71,7 @@ module _ (a : Bits) (s : ℕ) (hs : s < 2 ^ 64) (ga : Well 64 a) where
               (λ k l. omega (arith, bit-zero k, bit-and k (a .value) left, left-bit k, apart-bit 64 a ga k));
         }
 
-    there : (x : ℕ) → Apart a s x → Mem 64 cleared x
+    there : (x : ℕ) → Apart a s x → Mem 64 rest x
     there x i =
         record {
           fits = i .0 .fits;
@@ -78,7 +79,7 @@ module _ (a : Bits) (s : ℕ) (hs : s < 2 ^ 64) (ga : Well 64 a) where
               (λ u. omega (arith, left-bit k, bit-lt k s, no-shared-digit x (no-shared-bit x i) k, no-shared-digit (a .value) z k));
         }
 
-    back : (x : ℕ) → Mem 64 cleared x → Apart a s x
+    back : (x : ℕ) → Mem 64 rest x → Apart a s x
     back x h = (
       record { fits = h .fits; agrees = λ k l e. h .agrees k l (omega (arith, left-bit k)) },
       shares x s (h .fits) hs
@@ -93,14 +94,20 @@ module _ (a : Bits) (s : ℕ) (hs : s < 2 ^ 64) (ga : Well 64 a) where
           ))))),
     )
 
-    pub jset-not-taken-clears : Learns (Apart a s) (Pair (record { value = a .value; mask = bitXor (bitOr (a .mask) s) s }))
+    jset-not-taken-clears : Learns (Apart a s) (Pair (record { value = a .value; mask = bitXor (bitOr (a .mask) s) s }))
     jset-not-taken-clears =
         record {
           answer = (
-            same-numbers-is-best 64 (Apart a s) cleared cleared-is-well there back,
-            (a .value, back (a .value) (mem-least 64 cleared cleared-is-well)),
+            same-numbers-is-best 64 (Apart a s) rest rest-is-well there back,
+            (a .value, back (a .value) (mem-least 64 rest rest-is-well)),
           );
         }
+
+  pub cleared-learns : Learns (Apart a s) (cleared a s)
+  unfolding cleared
+  cleared-learns =
+      by-cases (Learns (Apart a s)) (eqb (bitAnd (a .value) s) 0) (λ e. jset-not-taken-clears (eqb-true _ _ e))
+      (λ e. a-shared-known-bit-leaves-nothing (eqb-false _ _ e))
 
 -- ---- two pairs for one number
 module _ (a b : Bits) (ga : Well 64 a) (gb : Well 64 b) where
@@ -113,7 +120,7 @@ module _ (a b : Bits) (ga : Well 64 a) (gb : Well 64 b) where
   unknown-fits : unknown < 2 ^ 64
   unknown-fits = or-lt 64 (a .mask) (b .mask) (ga .mask-fits) (gb .mask-fits)
 
-  pub a-difference-in-known-bits-leaves-nothing : (bitOr (a .value) (bitOr (a .mask) (b .mask)) ≡ bitOr (b .value) (bitOr (a .mask) (b .mask)) → ⊥)
+  a-difference-in-known-bits-leaves-nothing : (bitOr (a .value) (bitOr (a .mask) (b .mask)) ≡ bitOr (b .value) (bitOr (a .mask) (b .mask)) → ⊥)
       → Learns (Both a b) Nothing
   a-difference-in-known-bits-leaves-nothing n =
       record {
@@ -132,8 +139,8 @@ module _ (a b : Bits) (ga : Well 64 a) (gb : Well 64 b) where
           (λ z. omega (arith, bit-lt k (a .value), bit-lt k (b .value)))
 
   module _ (e : bitOr (a .value) (bitOr (a .mask) (b .mask)) ≡ bitOr (b .value) (bitOr (a .mask) (b .mask))) where
-    abbrev met : Bits
-    met = record { value = bitOr (a .value) (b .value); mask = bitAnd (a .mask) (b .mask) }
+    abbrev common : Bits
+    common = record { value = bitOr (a .value) (b .value); mask = bitAnd (a .mask) (b .mask) }
 
     same-value : (k : ℕ) → bit k (a .mask) ≡ 0 → bit k (b .mask) ≡ 0 → bit k (a .value) ≡ bit k (b .value)
     same-value k p q =
@@ -142,35 +149,35 @@ module _ (a b : Bits) (ga : Well 64 a) (gb : Well 64 b) where
         sym (bit-or k (a .value) unknown) ∙ ap (bit k) e ∙ bit-or k (b .value) unknown in
         omega arith
 
-    value-bit : (k : ℕ) → bit k (met .value) ≡ max (bit k (a .value)) (bit k (b .value))
+    value-bit : (k : ℕ) → bit k (common .value) ≡ max (bit k (a .value)) (bit k (b .value))
     value-bit k = bit-or k (a .value) (b .value)
 
-    mask-bit : (k : ℕ) → bit k (met .mask) ≡ min (bit k (a .mask)) (bit k (b .mask))
+    mask-bit : (k : ℕ) → bit k (common .mask) ≡ min (bit k (a .mask)) (bit k (b .mask))
     mask-bit k = bit-and k (a .mask) (b .mask)
 
     -- where a pair knows the bit, it is the one of the meet
-    first-bit : (k : ℕ) → bit k (a .mask) ≡ 0 → bit k (met .value) ≡ bit k (a .value)
+    first-bit : (k : ℕ) → bit k (a .mask) ≡ 0 → bit k (common .value) ≡ bit k (a .value)
     first-bit k z =
         digit (bit k (b .mask)) (bit-lt k (b .mask)) (λ y. omega (arith, value-bit k, same-value k z y))
         (λ y. omega (arith, value-bit k, apart-bit 64 b gb k))
 
-    second-bit : (k : ℕ) → bit k (b .mask) ≡ 0 → bit k (met .value) ≡ bit k (b .value)
+    second-bit : (k : ℕ) → bit k (b .mask) ≡ 0 → bit k (common .value) ≡ bit k (b .value)
     second-bit k z =
         digit (bit k (a .mask)) (bit-lt k (a .mask)) (λ y. omega (arith, value-bit k, same-value k y z))
         (λ y. omega (arith, value-bit k, apart-bit 64 a ga k))
 
-    met-is-well : Well 64 met
-    met-is-well =
+    common-is-well : Well 64 common
+    common-is-well =
         let hv = or-lt 64 (a .value) (b .value) (ga .value-fits) (gb .value-fits) in
         let hm = and-lt 64 (a .mask) (b .mask) (ga .mask-fits) (gb .mask-fits) in
         record {
           value-fits = hv;
           mask-fits = hm;
-          apart = ext 64 (bitAnd (met .value) (met .mask)) 0 (and-lt 64 (met .value) (met .mask) hv hm) (pow-pos 64)
-              (λ k l. omega (arith, bit-zero k, bit-and k (met .value) (met .mask), value-bit k, mask-bit k, apart-bit 64 a ga k, apart-bit 64 b gb k));
+          apart = ext 64 (bitAnd (common .value) (common .mask)) 0 (and-lt 64 (common .value) (common .mask) hv hm) (pow-pos 64)
+              (λ k l. omega (arith, bit-zero k, bit-and k (common .value) (common .mask), value-bit k, mask-bit k, apart-bit 64 a ga k, apart-bit 64 b gb k));
         }
 
-    into : (x : ℕ) → Both a b x → Mem 64 met x
+    into : (x : ℕ) → Both a b x → Mem 64 common x
     into x (ha, hb) =
         record {
           fits = ha .fits;
@@ -178,14 +185,20 @@ module _ (a b : Bits) (ga : Well 64 a) (gb : Well 64 b) where
               (λ y. let o : bit k (b .mask) ≡ 0 = omega (arith, mask-bit k, bit-lt k (b .mask)) in hb .agrees k l o ∙ sym (second-bit k o));
         }
 
-    out : (x : ℕ) → Mem 64 met x → Both a b x
+    out : (x : ℕ) → Mem 64 common x → Both a b x
     out x h = (
       record { fits = h .fits; agrees = λ k l z. h .agrees k l (omega (arith, mask-bit k)) ∙ first-bit k z },
       record { fits = h .fits; agrees = λ k l z. h .agrees k l (omega (arith, mask-bit k)) ∙ second-bit k z },
     )
 
-    pub meet-keeps-both : Learns (Both a b) (Pair (record { value = bitOr (a .value) (b .value); mask = bitAnd (a .mask) (b .mask) }))
+    meet-keeps-both : Learns (Both a b) (Pair (record { value = bitOr (a .value) (b .value); mask = bitAnd (a .mask) (b .mask) }))
     meet-keeps-both =
         record {
-          answer = (same-numbers-is-best 64 (Both a b) met met-is-well into out, (met .value, out (met .value) (mem-least 64 met met-is-well)));
+          answer = (same-numbers-is-best 64 (Both a b) common common-is-well into out, (common .value, out (common .value) (mem-least 64 common common-is-well)));
         }
+
+  pub met-learns : Learns (Both a b) (met a b)
+  unfolding met
+  met-learns =
+      by-cases (Learns (Both a b)) (eqb (bitOr (a .value) (bitOr (a .mask) (b .mask))) (bitOr (b .value) (bitOr (a .mask) (b .mask))))
+      (λ e. meet-keeps-both (eqb-true _ _ e)) (λ e. a-difference-in-known-bits-leaves-nothing (eqb-false _ _ e))

@@ -5,6 +5,7 @@ pub mod Computing
 pub mod CountLaws
 pub mod Covering
 pub mod Exact
+pub mod Fits
 pub mod Joined
 pub mod Laws
 pub mod LearnLaws

@@ -4,18 +4,20 @@ use mathlib.Core.Path.{_≡_, refl, sym, ap, _∙_, subst}
 use Prim.Native.Nat.{ℕ, _+_, _%_, _^_, _≤_, _<_}
 use native.Mathlib.Omega.{arith}
 use lib.Pow.{pow-pos}
-use lib.Bits.{bitOr, bitXor, xor-self, or-zero-l}
-use Rattle.word.specs.Word.{bit, cut, alu}
+use lib.Bits.{bitOr, xor-self, or-zero-l}
+use Rattle.word.specs.Word.{bit, alu}
 use Rattle.word.specs.declared.Operation.the-variants.{Add, Sub, Neg, And, Or, Xor, Mov}
 use Rattle.word.proofs.Bit.{bit-mod, bit-add, carry, carry-lt, carry-low, carry-mono, bit-sub, borrow, borrow-lt, borrow-low, borrow-mono, low-le}
 use Rattle.word.proofs.Cut.{cut-small}
 use Rattle.word.proofs.Pinned.{add-is-the-sum, and-bit-by-bit, or-bit-by-bit, xor-bit-by-bit, result-below}
 use Rattle.known_bits.specs.declared.Bits.{Bits}
+use Rattle.known_bits.specs.Formula.{sum, difference, digits, parity}
 use Rattle.known_bits.specs.KnownBits.{Well, Mem, Best}
-use Rattle.known_bits.specs.Pair.{packed, spread, top}
+use Rattle.known_bits.specs.Pair.{packed, top, exactly}
+use Rattle.known_bits.proofs.Base.{same-numbers-is-best}
 use Rattle.known_bits.proofs.Tight.{mem-least, mem-top, mem-low, mem-high}
 use Rattle.known_bits.proofs.Laws.{best-same-set, exact-mem}
-use Rattle.known_bits.proofs.Methods.{Image1, Image, monotone, carried}
+use Rattle.known_bits.proofs.Methods.{Image, monotone, carried}
 
 -- the low bits of the numbers of a pair lie between those of its ends
 module _ (w : ℕ) (p : Bits) (g : Well w p) (k x : ℕ) (l : k < w) (h : Mem w p x) where
@@ -30,8 +32,8 @@ unfolding alu
 sub-bit w k x y l hx hy = rw (cut-small w hx, cut-small w hy) (bit-sub w k x y l hx hy)
 
 module _ (w : ℕ) (a b : Bits) (ga : Well w a) (gb : Well w b) where
-  pub add-best : Best w (Image w (alu w Add) a b)
-      (spread (alu w Add (a .value) (b .value)) (alu w Add (a .value) (b .value)) (alu w Add (top a) (top b)) (a .mask) (b .mask))
+  pub add-best : Best w (Image w (alu w Add) a b) (sum w a b)
+  unfolding sum
   add-best =
       carried w a b ga gb (alu w Add) (result-below w Add) carry
       (λ k x y l hx hy. ap (bit k) (add-is-the-sum w x y) ∙ bit-mod w k (x + y) l ∙ bit-add k x y)
@@ -42,8 +44,8 @@ module _ (w : ℕ) (a b : Bits) (ga : Well w a) (gb : Well w b) where
       (a .value) (b .value) (mem-least w a ga) (mem-least w b gb)
 
   -- the ends are crossed, since the borrow grows with y and falls with x
-  pub sub-best : Best w (Image w (alu w Sub) a b)
-      (spread (alu w Sub (a .value) (b .value)) (alu w Sub (top a) (b .value)) (alu w Sub (a .value) (top b)) (a .mask) (b .mask))
+  pub sub-best : Best w (Image w (alu w Sub) a b) (difference w a b)
+  unfolding difference
   sub-best =
       carried w a b ga gb (alu w Sub) (result-below w Sub) borrow
       (sub-bit w)
@@ -54,7 +56,8 @@ module _ (w : ℕ) (a b : Bits) (ga : Well w a) (gb : Well w b) where
       (a .value) (b .value) (mem-least w a ga) (mem-least w b gb)
 
   -- no carry at all
-  pub xor-best : Best w (Image w (alu w Xor) a b) (packed (alu w Xor (a .value) (b .value)) (bitOr (a .mask) (b .mask)))
+  pub xor-best : Best w (Image w (alu w Xor) a b) (parity w a b)
+  unfolding parity
   xor-best =
       subst (λ (n : ℕ). Best w (Image w (alu w Xor) a b) (packed (alu w Xor (a .value) (b .value)) (bitOr n (b .mask))))
       (ap (λ (n : ℕ). bitOr n (a .mask)) (xor-self (alu w Xor (a .value) (b .value))) ∙ or-zero-l (a .mask))
@@ -63,46 +66,46 @@ module _ (w : ℕ) (a b : Bits) (ga : Well w a) (gb : Well w b) where
       (a .value) (b .value) (a .value) (b .value) (mem-least w a ga) (mem-least w b gb) (mem-least w a ga) (mem-least w b gb)
       (λ k x y l hx hy. omega arith) (λ k x y l hx hy. omega arith) (a .value) (b .value) (mem-least w a ga) (mem-least w b gb))
 
-  pub and-best : Best w (Image w (alu w And) a b)
-      (packed (alu w And (a .value) (b .value)) (bitXor (alu w And (top a) (top b)) (alu w And (a .value) (b .value))))
+  pub and-best : Best w (Image w (alu w And) a b) (digits w And a b)
+  unfolding digits
   and-best =
       monotone w a b ga gb (alu w And) (result-below w And)
       (λ k x y x′ y′ l hx hy. omega (arith, and-bit-by-bit w x y k l, and-bit-by-bit w x′ y′ k l))
 
-  pub or-best : Best w (Image w (alu w Or) a b)
-      (packed (alu w Or (a .value) (b .value)) (bitXor (alu w Or (top a) (top b)) (alu w Or (a .value) (b .value))))
+  pub or-best : Best w (Image w (alu w Or) a b) (digits w Or a b)
+  unfolding digits
   or-best =
       monotone w a b ga gb (alu w Or) (result-below w Or)
       (λ k x y x′ y′ l hx hy. omega (arith, or-bit-by-bit w x y k l, or-bit-by-bit w x′ y′ k l))
 
--- ---- NEG is SUB from 0, and MOV the low bits of its source, whatever the other operand is
-abbrev pub zero-pair : Bits
-zero-pair = record { value = 0; mask = 0 }
-
-pub zero-well : (w : ℕ) → Well w zero-pair
+-- ---- NEG is SUB from 0, and MOV gives its source, whatever the other operand is
+zero-well : (w : ℕ) → Well w (exactly 0)
 zero-well w = record { value-fits = pow-pos w; mask-fits = pow-pos w; apart = refl }
 
-neg-is-sub : (v x y : ℕ) → alu v Neg x y ≡ alu v Sub 0 x
+neg-is-sub : (w x y : ℕ) → alu w Neg x y ≡ alu w Sub 0 x
 unfolding alu
-neg-is-sub v x y = rw (cut-small v (pow-pos v)) (ap (λ (n : ℕ). n % 2 ^ v) (omega arith))
+neg-is-sub w x y = rw (cut-small w (pow-pos w)) (ap (λ (n : ℕ). n % 2 ^ w) (omega arith))
 
-module _ (v w : ℕ) (a b : Bits) (gb : Well w b) (p : Bits) where
-  pub neg-best : Best w (Image w (alu v Sub) zero-pair a) p → Best w (Image w (alu v Neg) a b) p
+mov-is : (w x y : ℕ) → y < 2 ^ w → alu w Mov x y ≡ y
+unfolding alu
+mov-is w x y h = cut-small w h
+
+module _ (w : ℕ) (a b : Bits) (ga : Well w a) (gb : Well w b) where
+  pub neg-best : Best w (Image w (alu w Neg) a b) (difference w (exactly 0) a)
   neg-best =
-      best-same-set w (Image w (alu v Sub) zero-pair a) (Image w (alu v Neg) a b) p
+      best-same-set w (Image w (alu w Sub) (exactly 0) a) (Image w (alu w Neg) a b) (difference w (exactly 0) a)
       (λ z i. (
         i .1,
         b .value,
         i .3,
         mem-least w b gb,
-        i .4 ∙ ap (λ (n : ℕ). alu v Sub n (i .1)) (exact-mem w zero-pair (zero-well w) refl (i .0) .0 (i .2)) ∙ sym (neg-is-sub v (i .1) (b .value)),
+        i .4 ∙ ap (λ (n : ℕ). alu w Sub n (i .1)) (exact-mem w (exactly 0) (zero-well w) refl (i .0) .0 (i .2)) ∙ sym (neg-is-sub w (i .1) (b .value)),
       ))
-      (λ z i. (0, i .0, mem-least w zero-pair (zero-well w), i .2, i .4 ∙ neg-is-sub v (i .0) (i .1)))
+      (λ z i. (0, i .0, mem-least w (exactly 0) (zero-well w), i .2, i .4 ∙ neg-is-sub w (i .0) (i .1)))
+      (sub-best w (exactly 0) a (zero-well w) ga)
 
-module _ (v w : ℕ) (a b : Bits) (ga : Well w a) (p : Bits) where
-  pub mov-best : Best w (Image1 w (cut v) b) p → Best w (Image w (alu v Mov) a b) p
-  unfolding alu
+  pub mov-best : Best w (Image w (alu w Mov) a b) b
   mov-best =
-      best-same-set w (Image1 w (cut v) b) (Image w (alu v Mov) a b) p
-      (λ z i. (a .value, i .0, mem-least w a ga, i .1, i .2))
-      (λ z i. (i .1, i .3, i .4))
+      same-numbers-is-best w (Image w (alu w Mov) a b) b gb
+      (λ z i. subst (λ (n : ℕ). Mem w b n) (sym (i .4 ∙ mov-is w (i .0) (i .1) (i .3 .fits))) (i .3))
+      (λ z m. (a .value, z, mem-least w a ga, m, sym (mov-is w (a .value) z (m .fits))))

@@ -1,73 +1,117 @@
--- Products, quotients and rests: their bounds, and what makes a pair sound for them.
--- Assumes nothing.
+-- Products, quotients and rests of w bits: no result is more than the formula's bound, and the pairs that the formulas give are sound.
+-- By a power of two a quotient and a rest are the best. Assumes nothing.
+use mathlib.Core.Bool.{Bool, true, false, cond, _&&_}
 use mathlib.Core.Path.{_≡_, refl, sym, ap, _∙_, subst}
+use mathlib.Core.Logic.{inl, inr}
 use Prim.Native.Nat.{ℕ, _+_, _-_, _*_, _/_, _%_, _^_, _≤_, _<_}
-use native.Mathlib.Nat.{mod-lt, mod-le, mod-eq-of-lt, mul-le-mul, mul-le-mul-left, mul-lt-mul-of-pos-right, le-of-lt, mul-zero, le-div-iff-mul-le, div-mul-le-self, div-le-self, le-trans, lt-of-le-of-lt}
+use native.Mathlib.Nat.{mod-lt, mod-le, mod-eq-of-lt, mul-le-mul, mul-le-mul-left, le-div-iff-mul-le, div-mul-le-self, div-le-self, le-trans, lt-of-le-of-lt, zero-mod, zero-div, mod-self}
 use native.Mathlib.Decide.{decLt}
 use native.Mathlib.Omega.{arith}
-use lib.Pow.{pow-pos, pow-add, pow-lt, mod-mod-pow, shr-le}
-use borrow.Author.Tests.{ne-eqb}
+use lib.Bits.{bitOr, and-le-r}
+use lib.Count.{trailingZeros}
+use lib.Dec.{eqb, ltb}
+use lib.Pow.{pow-pos, pow-lt, pow-mono, shr-le}
+use borrow.Author.Tests.{eq-eqb, ne-eqb, lt-ltb, eqb-true, eqb-false, ltb-true, ltb-false}
 use Rattle.word.specs.Word.{alu, cut}
 use Rattle.word.specs.declared.Operation.{Operation}
 use Rattle.word.specs.declared.Operation.the-variants.{Mul, Div, Mod}
-use Rattle.word.proofs.Cut.{cut-64}
+use Rattle.word.proofs.Bit.{bit-shr, bit-pow}
+use Rattle.word.proofs.Cut.{cut-small, cut-64, cut-wider}
 use Rattle.word.proofs.Pinned.{result-below, mul-is-the-product, div-by-zero, mod-by-zero}
 use Rattle.known_bits.specs.declared.Bits.{Bits}
-use Rattle.known_bits.specs.KnownBits.{Well, Mem, Sound, Results}
-use Rattle.known_bits.specs.Masks.{Covers, Below, Product, ProductMask, lowBits}
-use Rattle.known_bits.specs.Pair.{exactly, top}
-use Rattle.known_bits.proofs.Exact.{Gives, result-fits}
-use Rattle.known_bits.proofs.Covering.{zeros-of-a-product, cut-keeps-zeros, no-bit-has-all-zeros, top-keeps-zeros}
-use Rattle.known_bits.proofs.Base.{top-covers, top-is-below, mask-is-below, low-is-below, covered-is-at-most, covered-is-sound, low-is-well, low-has-the-cuts, shifted-is-well, shifted-has-the-quotients}
-use Rattle.known_bits.proofs.Laws.{mem-bounds, exact-mem}
-use Rattle.known_bits.proofs.Tight.{mem-top}
+use Rattle.known_bits.specs.Formula.{low, upTo, fromBit, among, highestProduct, productMask, known, product, power, highestQuotient, quotient, highestRest, rest, highestShifted, leftMask}
+use Rattle.known_bits.specs.KnownBits.{Well, Mem, Sound, Best}
+use Rattle.known_bits.specs.Masks.{Covers}
+use Rattle.known_bits.specs.Pair.{exactly, top, each}
+use Rattle.known_bits.proofs.Exact.{both-known, exact-best}
+use Rattle.known_bits.proofs.Covering.{zeros-of-a-product, zeros-of-a-shift, covered-has-the-low-zeros, from-bit-covers, up-to-covers, up-to-is-no-longer, low-bits-are-zero, a-multiple-has-as-many-zeros}
+use Rattle.known_bits.proofs.Base.{by-cases, top-covers, both-cover, cut-is-covered, covered-is-at-most, covered-is-sound}
+use Rattle.known_bits.proofs.Class4.{low-best, sound-wider}
+use Rattle.known_bits.proofs.Laws.{best-sound, best-same-set, number-wider, high-bit, mem-bounds, exact-mem}
+use Rattle.known_bits.proofs.Methods.{Image1, Image, From, selected}
+use Rattle.known_bits.proofs.Tight.{mem-least, mem-top}
 
--- ---- bounds
+-- ---- bounds of products
 pub product-of-the-greatest-fits : (t u : ℕ) → 0 < u → t ≤ (2 ^ 64 - 1) / u → t * u < 2 ^ 64
 product-of-the-greatest-fits t u h l = omega (arith, le-div-iff-mul-le {k = u} {x = t} {y = 2 ^ 64 - 1} h .0 l)
 
-pub product-at-most : (x y t u : ℕ) → x ≤ t → y ≤ u → (x * y) % 2 ^ 64 ≤ t * u
-product-at-most x y t u p q = le-trans (mod-le (x * y) (2 ^ 64)) (mul-le-mul p q)
+pub product-that-wraps : (t u : ℕ) → 0 < u → (t ≤ (2 ^ 64 - 1) / u → ⊥) → 2 ^ 64 ≤ t * u
+product-that-wraps t u h w =
+    let g : t * u ≤ 2 ^ 64 - 1 → ⊥ = λ l. w (le-div-iff-mul-le {k = u} {x = t} {y = 2 ^ 64 - 1} h .1 l) in omega arith
 
-pub product-by-none : (x y : ℕ) → y ≤ 0 → (x * y) % 2 ^ 64 ≤ 0
-product-by-none x y l = let e : x * y ≡ 0 = ap (λ (n : ℕ). x * n) (omega arith) ∙ mul-zero x in omega arith
+module _ (t u : ℕ) where
+  product-at-most : (x y : ℕ) → x ≤ t → y ≤ u → (x * y) % 2 ^ 64 ≤ highestProduct t u
+  unfolding highestProduct
+  product-at-most x y p q =
+      by-cases (λ (m : ℕ). (x * y) % 2 ^ 64 ≤ m) (ltb (t * u) (2 ^ 64)) (λ e. le-trans (mod-le (x * y) (2 ^ 64)) (mul-le-mul p q))
+      (λ e. omega arith)
 
-pub product-is-no-longer : (t u n m : ℕ) → t < 2 ^ n → u < 2 ^ m → t * u < 2 ^ (n + m)
-product-is-no-longer t u n m p q =
-    subst (λ (k : ℕ). t * u < k) (sym (pow-add 2 n m)) (lt-of-le-of-lt (mul-le-mul-left t (le-of-lt q)) (mul-lt-mul-of-pos-right p (pow-pos m)))
+  highest-product-fits : highestProduct t u < 2 ^ 64
+  unfolding highestProduct
+  highest-product-fits = by-cases (λ (m : ℕ). m < 2 ^ 64) (ltb (t * u) (2 ^ 64)) (ltb-true (t * u) (2 ^ 64)) (λ e. omega arith)
 
-pub product-that-wraps-is-long : (t u n m : ℕ) → 0 < u → (t ≤ (2 ^ 64 - 1) / u → ⊥) → t < 2 ^ n → u < 2 ^ m → 2 ^ 64 - 1 < 2 ^ (n + m)
-product-that-wraps-is-long t u n m h w p q =
-    let g : t * u ≤ 2 ^ 64 - 1 → ⊥ = λ l. w (le-div-iff-mul-le {k = u} {x = t} {y = 2 ^ 64 - 1} h .1 l) in
-    omega (arith, product-is-no-longer t u n m p q)
+  highest-product-mask-fits : upTo (highestProduct t u) < 2 ^ 64
+  highest-product-mask-fits = up-to-is-no-longer (highestProduct t u) highest-product-fits 64 highest-product-fits
 
-module _ (x y : ℕ) (hx : x < 2 ^ 64) (hy : y < 2 ^ 64) where
-  pub quotient-is : 0 < y → alu 64 Div x y ≡ x / y
+  -- the low zeros of both factors, and no bit above the highest product
+  pub product-mask-covers : t < 2 ^ 64 → u < 2 ^ 64 → (x y : ℕ) → x < 2 ^ 64 → y < 2 ^ 64 → Covers t x → Covers u y
+      → Covers (productMask t u) ((x * y) % 2 ^ 64)
+  unfolding productMask
+  product-mask-covers ht hu x y hx hy p q =
+      both-cover _ _ _
+      (from-bit-covers (trailingZeros 64 t + trailingZeros 64 u) (x * y)
+      (zeros-of-a-product x y _ _ (covered-has-the-low-zeros t x p) (covered-has-the-low-zeros u y q)))
+      (up-to-covers (highestProduct t u) highest-product-fits _
+      (product-at-most x y (covered-is-at-most t x p 64 hx ht) (covered-is-at-most u y q 64 hy hu)))
+
+  pub product-mask-fits : productMask t u < 2 ^ 64
+  unfolding productMask
+  product-mask-fits = lt-of-le-of-lt (and-le-r (fromBit (trailingZeros 64 t + trailingZeros 64 u)) (upTo (highestProduct t u))) highest-product-mask-fits
+
+-- a shift to the left is a product with a power of two
+module _ (t least most : ℕ) where
+  pub left-mask-covers : t < 2 ^ 64 → (x c : ℕ) → x < 2 ^ 64 → Covers t x → least ≤ c → c ≤ most → Covers (leftMask t least most) ((x * 2 ^ c) % 2 ^ 64)
+  unfolding leftMask highestShifted
+  left-mask-covers ht x c hx p lo hi =
+      both-cover _ _ _
+      (from-bit-covers (trailingZeros 64 t + least) (x * 2 ^ c)
+      (zeros-of-a-shift x (trailingZeros 64 t) least c lo (covered-has-the-low-zeros t x p)))
+      (up-to-covers (highestProduct t (2 ^ most)) (highest-product-fits t (2 ^ most)) _
+      (product-at-most t (2 ^ most) x (2 ^ c) (covered-is-at-most t x p 64 hx ht) (pow-mono hi)))
+
+  pub left-mask-fits : leftMask t least most < 2 ^ 64
+  unfolding leftMask highestShifted
+  left-mask-fits =
+      lt-of-le-of-lt (and-le-r (fromBit (trailingZeros 64 t + least)) (upTo (highestProduct t (2 ^ most)))) (highest-product-mask-fits t (2 ^ most))
+
+-- ---- bounds of quotients and rests
+module _ (w x y : ℕ) (hx : x < 2 ^ w) (hy : y < 2 ^ w) where
+  pub quotient-is : 0 < y → alu w Div x y ≡ x / y
   unfolding alu
-  quotient-is p = simp (cut-64 {x = x} hx, cut-64 {x = y} hy, ne-eqb y 0 (λ e. omega arith))
+  quotient-is p = simp (cut-small w {x = x} hx, cut-small w {x = y} hy, ne-eqb y 0 (λ e. omega arith))
 
-  pub rest-is : 0 < y → alu 64 Mod x y ≡ x % y
+  pub rest-is : 0 < y → alu w Mod x y ≡ x % y
   unfolding alu
-  rest-is p = simp (cut-64 {x = x} hx, cut-64 {x = y} hy, ne-eqb y 0 (λ e. omega arith))
+  rest-is p = simp (cut-small w {x = x} hx, cut-small w {x = y} hy, ne-eqb y 0 (λ e. omega arith))
 
-  pub quotient-at-most-the-dividend : alu 64 Div x y ≤ x
+  none : ¬ (0 < y) → y % 2 ^ w ≡ 0
+  none n = let e : y ≡ 0 = omega arith in ap (λ (m : ℕ). m % 2 ^ w) e ∙ zero-mod (2 ^ w)
+
+  pub quotient-at-most-the-dividend : alu w Div x y ≤ x
   quotient-at-most-the-dividend = go (decLt 0 y)
     where
-      go : Dec (0 < y) → alu 64 Div x y ≤ x
+      go : Dec (0 < y) → alu w Div x y ≤ x
       go (yes p) = omega (arith, quotient-is p, div-le-self x y)
-      go (no n) = omega (arith, div-by-zero 64 x y (omega arith))
+      go (no n) = omega (arith, div-by-zero w x y (none n))
 
-  pub rest-at-most-the-dividend : alu 64 Mod x y ≤ x
+  pub rest-at-most-the-dividend : alu w Mod x y ≤ x
   rest-at-most-the-dividend = go (decLt 0 y)
     where
-      go : Dec (0 < y) → alu 64 Mod x y ≤ x
+      go : Dec (0 < y) → alu w Mod x y ≤ x
       go (yes p) = omega (arith, rest-is p, mod-le x y)
-      go (no n) = omega (arith, mod-by-zero 64 x y (omega arith))
+      go (no n) = omega (arith, mod-by-zero w x y (none n), mod-eq-of-lt hx)
 
-  pub rest-less-than-the-divisor : 0 < y → alu 64 Mod x y < y
-  rest-less-than-the-divisor p = omega (arith, rest-is p, mod-lt x p)
-
-  pub quotient-by-more : (t v : ℕ) → x ≤ t → v ≤ y → 0 < v → alu 64 Div x y ≤ t / v
+  quotient-by-more : (t v : ℕ) → x ≤ t → v ≤ y → 0 < v → alu w Div x y ≤ t / v
   quotient-by-more t v p q h =
       omega (
         arith,
@@ -75,216 +119,209 @@ module _ (x y : ℕ) (hx : x < 2 ^ 64) (hy : y < 2 ^ 64) where
         le-div-iff-mul-le {k = v} {x = x / y} {y = t} h .1 (le-trans (mul-le-mul-left (x / y) q) (le-trans (div-mul-le-self x y) p)),
       )
 
--- ---- a result is no longer than the dividend
-module _ (n : ℕ) (a : Bits) (s : ℕ) (h : Below n a) (ha : a .value < 2 ^ 64) (hs : s < 2 ^ 64) where
-  pub exact-quotient-is-below : (v : ℕ) → v ≡ alu 64 Div (a .value) s → Below n (exactly v)
-  exact-quotient-is-below v e =
-      record {
-        value-below = omega (arith, quotient-at-most-the-dividend (a .value) s ha hs, h .value-below);
-        mask-below = pow-pos n;
-      }
+  quotient-at-most : (t v : ℕ) → x ≤ t → v ≤ y → alu w Div x y ≤ highestQuotient t v
+  unfolding highestQuotient
+  quotient-at-most t v p q =
+      by-cases (λ (m : ℕ). alu w Div x y ≤ m) (eqb v 0) (λ e. le-trans quotient-at-most-the-dividend p)
+      (λ e. let n = eqb-false v 0 e in quotient-by-more t v p q (omega arith))
 
-  pub exact-rest-is-below : (v : ℕ) → v ≡ alu 64 Mod (a .value) s → Below n (exactly v)
-  exact-rest-is-below v e =
-      record {
-        value-below = omega (arith, rest-at-most-the-dividend (a .value) s ha hs, h .value-below);
-        mask-below = pow-pos n;
-      }
+  rest-at-most : (t v u : ℕ) → x ≤ t → v ≤ y → y ≤ u → alu w Mod x y ≤ highestRest t v u
+  unfolding highestRest
+  rest-at-most t v u p q l =
+      by-cases (λ (m : ℕ). alu w Mod x y ≤ m) (eqb v 0) (λ e. le-trans rest-at-most-the-dividend p)
+      (λ e. let n = eqb-false v 0 e in by-cases (λ (m : ℕ). alu w Mod x y ≤ m) (ltb t u) (λ i. le-trans rest-at-most-the-dividend p)
+      (λ i. omega (arith, rest-is (omega arith), mod-lt x {m = y} (omega arith))))
 
-pub shifted-is-below : (n k : ℕ) (a : Bits) → Below n a → Below n (record { value = a .value / 2 ^ k; mask = a .mask / 2 ^ k })
-shifted-is-below n k a h =
-    record {
-      value-below = lt-of-le-of-lt (shr-le (a .value) k) (h .value-below);
-      mask-below = lt-of-le-of-lt (shr-le (a .mask) k) (h .mask-below);
-    }
+pub highest-quotient-at-most : (t v : ℕ) → highestQuotient t v ≤ t
+unfolding highestQuotient
+highest-quotient-at-most t v = by-cases (λ (m : ℕ). m ≤ t) (eqb v 0) (λ e. omega arith) (λ e. div-le-self t v)
 
-pub rests-are-below : (n d : ℕ) (a : Bits) → Below n a → Below n (record { value = a .value % d; mask = a .mask % d })
-rests-are-below n d a h =
-    record {
-      value-below = lt-of-le-of-lt (mod-le (a .value) d) (h .value-below);
-      mask-below = lt-of-le-of-lt (mod-le (a .mask) d) (h .mask-below);
-    }
+pub highest-rest-at-most : (t v u : ℕ) → highestRest t v u ≤ t
+unfolding highestRest
+highest-rest-at-most t v u =
+    by-cases (λ (m : ℕ). m ≤ t) (eqb v 0) (λ e. omega arith)
+    (λ e. by-cases (λ (m : ℕ). m ≤ t) (ltb t u) (λ i. omega arith) (λ i. omega (arith, ltb-false t u i)))
 
-pub bounded-is-below : (n t m : ℕ) (a : Bits) → t ≤ top a → ((k : ℕ) → t < 2 ^ k → m < 2 ^ k) → Below n a → Below n (record { value = 0; mask = m })
-bounded-is-below n t m a l f h = mask-is-below n m (f n (lt-of-le-of-lt l (top-is-below n a h)))
-
-pub low-results-are-below : (a la r : Bits) → la ≡ lowBits 32 a → ((n : ℕ) → Below n la → Below n r) → Below 32 r
-low-results-are-below a la r e f = f 32 (subst (λ (p : Bits). Below 32 p) (sym e) (low-is-below 32 a))
-
--- ---- the length and the low zeros of a product
-module _ (a b : Bits) where
-  pub exact-product : (v : ℕ) → v ≡ alu 64 Mul (a .value) (b .value) → Product 64 a b (exactly v)
-  exact-product v e =
-      let z : v ≡ (a .value * b .value) % 2 ^ 64 = e ∙ mul-is-the-product 64 (a .value) (b .value) in
-      record {
-        fits = record { value-below = omega (arith, result-below 64 Mul (a .value) (b .value)); mask-below = pow-pos 64 };
-        below = λ n m p q. record {
-          value-below = omega (
-            arith,
-            mod-le (a .value * b .value) (2 ^ 64),
-            product-is-no-longer (a .value) (b .value) n m (p .value-below) (q .value-below),
-          );
-          mask-below = pow-pos (n + m);
-        };
-        multiple = λ n m p q. record {
-          value-multiple = ap (λ (x : ℕ). x % 2 ^ (n + m)) z
-              ∙ cut-keeps-zeros 64 (a .value * b .value) (n + m)
-              (zeros-of-a-product (a .value) (b .value) n m (p .value-multiple) (q .value-multiple));
-          mask-multiple = no-bit-has-all-zeros (n + m);
-        };
-      }
-
-  pub masked-product : (m : ℕ) → m < 2 ^ 64 → ProductMask (top a) (top b) m → Product 64 a b (record { value = 0; mask = m })
-  masked-product m h f =
-      record {
-        fits = mask-is-below 64 m h;
-        below = λ n k p q. mask-is-below (n + k) m (f .below n k (top-is-below n a p) (top-is-below k b q));
-        multiple = λ n k p q. record {
-          value-multiple = no-bit-has-all-zeros (n + k);
-          mask-multiple = f .multiple n k (top-keeps-zeros n a p) (top-keeps-zeros k b q);
-        };
-      }
-
-  pub low-half-of-product : (m r : Bits) → r ≡ lowBits 32 m → Product 64 a b m → Product 32 a b r
-  low-half-of-product m r e f =
-      subst (λ (p : Bits). Product 32 a b p) (sym e)
-      (record {
-        fits = low-is-below 32 m;
-        below = λ n k p q. rests-are-below (n + k) (2 ^ 32) m (f .below n k p q);
-        multiple = λ n k p q. record {
-          value-multiple = cut-keeps-zeros 32 (m .value) (n + k) (f .multiple n k p q .value-multiple);
-          mask-multiple = cut-keeps-zeros 32 (m .mask) (n + k) (f .multiple n k p q .mask-multiple);
-        };
-      })
-
--- ---- sound pairs
-pub mask-of-results : (w : ℕ) (op : Operation) (a b : Bits) (m : ℕ) → w ≤ 64 → m < 2 ^ 64
-    → ((x y : ℕ) → Mem 64 a x → Mem 64 b y → Covers m (alu w op x y)) → Sound 64 (Results w op a b) (record { value = 0; mask = m })
-mask-of-results w op a b m l h c =
-    covered-is-sound 64 (Results w op a b) m h
-    (λ z i. subst (λ (n : ℕ). (n < 2 ^ 64) × Covers m n) (sym (i .4)) (result-fits w op (i .0) (i .1) l, c (i .0) (i .1) (i .2) (i .3)))
-
-pub top-is-greatest : (a : Bits) → Well 64 a → (x : ℕ) → Mem 64 a x → x ≤ top a
-top-is-greatest a g x h = covered-is-at-most (top a) x (top-covers 64 a g x h) 64 (h .fits) (mem-top 64 a g .fits)
-
-module _ (a b : Bits) (m : ℕ) (h : m < 2 ^ 64) where
-  pub mul-mask-is-sound : ProductMask (top a) (top b) m
-      → Well 64 a → Well 64 b → Sound 64 (Results 64 Mul a b) (record { value = 0; mask = m })
-  mul-mask-is-sound c ga gb =
-      mask-of-results 64 Mul a b m (omega arith) h
-      (λ x y hx hy. subst (λ (n : ℕ). Covers m n) (sym (mul-is-the-product 64 x y))
-      (c .covers x y (hx .fits) (hy .fits) (top-covers 64 a ga x hx) (top-covers 64 b gb y hy)))
-
-  pub div-mask-is-sound : (t : ℕ) → ((x : ℕ) → x ≤ t → Covers m x)
-      → ((x y : ℕ) → y < 2 ^ 64 → x ≤ top a → b .value ≤ y → alu 64 Div x y ≤ t)
-      → Well 64 a → Well 64 b → Sound 64 (Results 64 Div a b) (record { value = 0; mask = m })
-  div-mask-is-sound t c q ga gb =
-      mask-of-results 64 Div a b m (omega arith) h
-      (λ x y hx hy. c (alu 64 Div x y) (q x y (hy .fits) (top-is-greatest a ga x hx) (mem-bounds 64 b gb y hy .0)))
-
-  pub mod-mask-is-sound : (t : ℕ) → ((x : ℕ) → x ≤ t → Covers m x)
-      → ((x y : ℕ) → x ≤ top a → b .value ≤ y → y ≤ top b → alu 64 Mod x y ≤ t)
-      → Well 64 a → Well 64 b → Sound 64 (Results 64 Mod a b) (record { value = 0; mask = m })
-  mod-mask-is-sound t c q ga gb =
-      mask-of-results 64 Mod a b m (omega arith) h
-      (λ x y hx hy. c (alu 64 Mod x y) (q x y (top-is-greatest a ga x hx) (mem-bounds 64 b gb y hy .0) (top-is-greatest b gb y hy)))
-
--- by a power of two
+-- ---- powers of two
 pub one-shifted-is-the-power : (n : ℕ) → n < 64 → (1 * 2 ^ n) % 2 ^ 64 ≡ 2 ^ n
 one-shifted-is-the-power n l = let h : 2 ^ n < 2 ^ 64 = pow-lt l in omega arith
 
 pub one-shifted-is-not-zero : (n : ℕ) → n < 64 → 0 < (1 * 2 ^ n) % 2 ^ 64
 one-shifted-is-not-zero n l = omega (arith, one-shifted-is-the-power n l, pow-pos n)
 
-module _ (a b : Bits) (n : ℕ) (h : (b .mask ≡ 0) × (b .value ≡ 2 ^ n)) (ga : Well 64 a) (gb : Well 64 b) where
-  divisor : (y : ℕ) → Mem 64 b y → y ≡ 2 ^ n
-  divisor y m = exact-mem 64 b gb (h .0) y .0 m ∙ h .1
+pub low-zeros-of-a-power : (n : ℕ) → n < 64 → trailingZeros 64 (2 ^ n) ≡ n
+low-zeros-of-a-power n l = go (decLt n (trailingZeros 64 (2 ^ n)))
+  where
+    go : Dec (n < trailingZeros 64 (2 ^ n)) → trailingZeros 64 (2 ^ n) ≡ n
+    go (yes i) = absurd (omega (arith, low-bits-are-zero 64 (2 ^ n) n i, bit-pow n))
+    go (no i) = omega (arith, a-multiple-has-as-many-zeros (2 ^ n) n (mod-self (2 ^ n)) (omega arith))
 
-  positive : (y : ℕ) → Mem 64 b y → 0 < y
-  positive y m = omega (arith, divisor y m, pow-pos n)
+power-if : (P : ℕ → Type 0) (s t : Bool) (n : ℕ) → (s ≡ true → t ≡ true → P n) → P 64 → P (cond (s && t) n 64)
+power-if P true t n f g = by-cases P t (f refl) (λ _. g)
+power-if P false t n f g = g
 
-  pub div-by-a-power-shifts : Sound 64 (Results 64 Div a b) (record { value = a .value / 2 ^ n; mask = a .mask / 2 ^ n })
-  div-by-a-power-shifts =
-      record {
-        well = shifted-is-well 64 n a ga;
-        sound = λ z i. subst (λ (x : ℕ). Mem 64 (record { value = a .value / 2 ^ n; mask = a .mask / 2 ^ n }) x)
-            (sym (i .4 ∙ quotient-is (i .0) (i .1) (i .2 .fits) (i .3 .fits) (positive (i .1) (i .3)) ∙ ap (λ (y : ℕ). i .0 / y) (divisor (i .1) (i .3))))
-            (shifted-has-the-quotients 64 n a ga (i .0) (i .2));
-      }
+pub power-is : (b : Bits) → power b < 64 → (b .mask ≡ 0) × (b .value ≡ 2 ^ power b)
+unfolding power
+power-is b =
+    power-if (λ n. n < 64 → (b .mask ≡ 0) × (b .value ≡ 2 ^ n)) (eqb (b .mask) 0) (eqb (b .value) (2 ^ (trailingZeros 64 (b .value) % 64))) _
+    (λ e i l. (eqb-true _ _ e, eqb-true _ _ i)) (λ l. absurd (omega arith))
 
-  mod-by-the-power-cuts : Sound 64 (Results 64 Mod a b) (lowBits n a)
-  mod-by-the-power-cuts =
-      record {
-        well = low-is-well 64 n a ga;
-        sound = λ z i. subst (λ (x : ℕ). Mem 64 (lowBits n a) x)
-            (sym (i .4 ∙ rest-is (i .0) (i .1) (i .2 .fits) (i .3 .fits) (positive (i .1) (i .3)) ∙ ap (λ (y : ℕ). i .0 % y) (divisor (i .1) (i .3))))
-            (low-has-the-cuts 64 n a ga (i .0) (i .2));
-      }
+module _ (b : Bits) (n : ℕ) (zm : b .mask ≡ 0) (zv : b .value ≡ 2 ^ n) where
+  pub power-of : n < 64 → power b ≡ n
+  unfolding power
+  power-of l =
+      let e : trailingZeros 64 (b .value) % 64 ≡ n =
+      ap (λ (v : ℕ). trailingZeros 64 v % 64) zv ∙ ap (λ (m : ℕ). m % 64) (low-zeros-of-a-power n l) ∙ mod-eq-of-lt l in
+      simp (eq-eqb (b .mask) 0 zm, eq-eqb (b .value) (2 ^ (trailingZeros 64 (b .value) % 64)) (zv ∙ ap (λ (m : ℕ). 2 ^ m) (sym e))) e
 
-  pub mod-by-a-power-cuts : (d : ℕ) → d ≡ 2 ^ n → Sound 64 (Results 64 Mod a b) (record { value = a .value % d; mask = a .mask % d })
-  mod-by-a-power-cuts d e =
-      subst (λ (x : ℕ). Sound 64 (Results 64 Mod a b) (record { value = a .value % x; mask = a .mask % x })) (sym e) mod-by-the-power-cuts
+  module _ (w : ℕ) (a : Bits) (ga : Well w a) (gb : Well w b) where
+    divisor : (y : ℕ) → Mem w b y → y ≡ 2 ^ n
+    divisor y m = exact-mem w b gb zm y .0 m ∙ zv
 
--- ---- at 32 bits
-half-of-half : (x : ℕ) → x % 2 ^ 32 % 2 ^ 64 ≡ x % 2 ^ 32
-half-of-half x = mod-eq-of-lt (omega arith)
+    positive : (y : ℕ) → Mem w b y → 0 < y
+    positive y m = omega (arith, divisor y m, pow-pos n)
 
-div-of-halves : (x y : ℕ) → alu 32 Div x y ≡ alu 64 Div (x % 2 ^ 32) (y % 2 ^ 32)
-unfolding alu cut
-div-of-halves x y = rw (half-of-half x, half-of-half y)
+    quotient-of : (x y : ℕ) → x < 2 ^ w → Mem w b y → alu w Div x y ≡ x / 2 ^ n
+    quotient-of x y h m = quotient-is w x y h (m .fits) (positive y m) ∙ ap (λ (d : ℕ). x / d) (divisor y m)
 
-mod-of-halves : (x y : ℕ) → alu 32 Mod x y ≡ alu 64 Mod (x % 2 ^ 32) (y % 2 ^ 32)
-unfolding alu cut
-mod-of-halves x y = rw (half-of-half x, half-of-half y)
+    rest-of : (x y : ℕ) → x < 2 ^ w → Mem w b y → alu w Mod x y ≡ cut n x
+    unfolding cut
+    rest-of x y h m = rest-is w x y h (m .fits) (positive y m) ∙ ap (λ (d : ℕ). x % d) (divisor y m)
 
-half-of-product : (x y : ℕ) → alu 32 Mul x y ≡ alu 64 Mul x y % 2 ^ 32
-half-of-product x y =
-    mul-is-the-product 32 x y ∙ sym (mod-mod-pow (x * y) 32 32) ∙ ap (λ (n : ℕ). n % 2 ^ 32) (sym (mul-is-the-product 64 x y))
+    pub quotient-by-power-best : Best w (Image w (alu w Div) a b) (each (λ x. x / 2 ^ n) a)
+    quotient-by-power-best =
+        best-same-set w (Image1 w (λ x. x / 2 ^ n) a) (Image w (alu w Div) a b) (each (λ x. x / 2 ^ n) a)
+        (λ z i. (i .0, b .value, i .1, mem-least w b gb, i .2 ∙ sym (quotient-of (i .0) (b .value) (i .1 .fits) (mem-least w b gb))))
+        (λ z i. (i .0, i .2, i .4 ∙ quotient-of (i .0) (i .1) (i .2 .fits) (i .3)))
+        (selected w a ga (λ x. x / 2 ^ n) (λ x l. lt-of-le-of-lt (shr-le x n) l) (λ k l. from k (decLt (n + k) w)))
+      where
+        from : (k : ℕ) → Dec (n + k < w) → From w (λ x. x / 2 ^ n) k
+        from k (yes h) = inl (n + k, h, λ x hx. bit-shr n k x)
+        from k (no h) = inr (λ x hx. bit-shr n k x ∙ high-bit w (n + k) x h hx)
 
-on-halves : (op : Operation) (a b r : Bits) → ((x y : ℕ) → alu 32 op x y ≡ alu 64 op (x % 2 ^ 32) (y % 2 ^ 32))
-    → Gives 64 op (lowBits 32 a) (lowBits 32 b) r → Gives 32 op a b r
-on-halves op a b r e g = (
-  λ ga gb.
-      let s = g .0 (low-is-well 64 32 a ga) (low-is-well 64 32 b gb) in
-      record {
-        well = s .well;
-        sound = λ z i. s .sound z (
-          i .0 % 2 ^ 32,
-          i .1 % 2 ^ 32,
-          low-has-the-cuts 64 32 a ga (i .0) (i .2),
-          low-has-the-cuts 64 32 b gb (i .1) (i .3),
-          i .4 ∙ e (i .0) (i .1),
-        );
-      },
-  λ za zb. g .1 (ap (λ (n : ℕ). n % 2 ^ 32) za) (ap (λ (n : ℕ). n % 2 ^ 32) zb) ∙ ap exactly (sym (e (a .value) (b .value))),
-)
+    pub rest-by-power-best : Best w (Image w (alu w Mod) a b) (each (λ x. x % 2 ^ n) a)
+    unfolding low cut
+    rest-by-power-best =
+        best-same-set w (Image1 w (cut n) a) (Image w (alu w Mod) a b) (low n a)
+        (λ z i. (i .0, b .value, i .1, mem-least w b gb, i .2 ∙ sym (rest-of (i .0) (b .value) (i .1 .fits) (mem-least w b gb))))
+        (λ z i. (i .0, i .2, i .4 ∙ rest-of (i .0) (i .1) (i .2 .fits) (i .3)))
+        (low-best n w a ga)
 
-abbrev Halves : Operation → Type 0
-Halves op =
-    (a b la lb r : Bits) → la ≡ lowBits 32 a → lb ≡ lowBits 32 b → Gives 64 op la lb r → Gives 32 op a b r
+  -- an exact dividend too
+  module _ (a : Bits) (ha : a .value < 2 ^ 64) (l : n < 64) where
+    hb : b .value < 2 ^ 64
+    hb = subst (λ (m : ℕ). m < 2 ^ 64) (sym zv) (pow-lt l)
 
-from-halves : (op : Operation) → ((x y : ℕ) → alu 32 op x y ≡ alu 64 op (x % 2 ^ 32) (y % 2 ^ 32)) → Halves op
-from-halves op e a b la lb r p q g =
-    on-halves op a b r e
-    (subst (λ (u : Bits). Gives 64 op u (lowBits 32 b) r) p (subst (λ (u : Bits). Gives 64 op la u r) q g))
+    some : 0 < b .value
+    some = omega (arith, zv, pow-pos n)
 
-pub div32-from-halves : Halves Div
-div32-from-halves = from-halves Div div-of-halves
+    divided-by-power : (op : Operation) (g : ℕ → ℕ → ℕ) (s : Bits) → alu 64 op (a .value) (b .value) ≡ g n (a .value) → g n 0 ≡ 0
+        → cond (known a b) (exactly (alu 64 op (a .value) (b .value))) (cond (ltb (power b) 64) (each (g (power b)) a) s) ≡ each (g n) a
+    unfolding known
+    divided-by-power op g s hv h0 =
+        by-cases (λ (r : Bits). r ≡ each (g n) a) (eqb (bitOr (a .mask) (b .mask)) 0)
+        (λ e i. record { value = hv i; mask = sym (ap (g n) (both-known (a .mask) (b .mask) (eqb-true _ _ e) .0) ∙ h0) i })
+        (λ e. simp (power-of l, lt-ltb n 64 l))
 
-pub mod32-from-halves : Halves Mod
-mod32-from-halves = from-halves Mod mod-of-halves
+    pub quotient-by-power : quotient a b ≡ each (λ x. x / 2 ^ n) a
+    unfolding quotient
+    quotient-by-power =
+        divided-by-power Div (λ m x. x / 2 ^ m) _ (quotient-is 64 (a .value) (b .value) ha hb some ∙ ap (λ (d : ℕ). a .value / d) zv) (zero-div (2 ^ n))
 
-half-of-mul64 : (a b m : Bits) → Gives 64 Mul a b m → Gives 32 Mul a b (lowBits 32 m)
-half-of-mul64 a b m g = (
-  λ ga gb.
-      let s = g .0 ga gb in
-      record {
-        well = low-is-well 64 32 m (s .well);
-        sound = λ z i. subst (λ (n : ℕ). Mem 64 (lowBits 32 m) n) (sym (i .4 ∙ half-of-product (i .0) (i .1)))
-            (low-has-the-cuts 64 32 m (s .well) (alu 64 Mul (i .0) (i .1)) (s .sound _ (i .0, i .1, i .2, i .3, refl)));
-      },
-  λ za zb. ap (lowBits 32) (g .1 za zb) ∙ ap exactly (sym (half-of-product (a .value) (b .value))),
-)
+    pub rest-by-power : rest a b ≡ each (λ x. x % 2 ^ n) a
+    unfolding rest
+    rest-by-power =
+        divided-by-power Mod (λ m x. x % 2 ^ m) _ (rest-is 64 (a .value) (b .value) ha hb some ∙ ap (λ (d : ℕ). a .value % d) zv) (zero-mod (2 ^ n))
 
-pub mul32-is-half-of-mul64 : (a b m r : Bits) → r ≡ lowBits 32 m → Gives 64 Mul a b m → Gives 32 Mul a b r
-mul32-is-half-of-mul64 a b m r e g = subst (λ (u : Bits). Gives 32 Mul a b u) (sym e) (half-of-mul64 a b m g)
+-- ---- the result of known numbers at 64 bits is that at w bits
+module _ (w : ℕ) (small : w ≤ 64) (x y : ℕ) where
+  pub low-of-the-product : cut w ((x * y) % 2 ^ 64) ≡ alu w Mul x y
+  unfolding cut
+  low-of-the-product = cut-wider w 64 (x * y) small ∙ sym (mul-is-the-product w x y)
+
+  pub exact-product-is : low w (exactly (alu 64 Mul x y)) ≡ exactly (alu w Mul x y)
+  unfolding low
+  exact-product-is = λ i. record {
+    value = (ap (cut w) (mul-is-the-product 64 x y) ∙ low-of-the-product) i;
+    mask = cut-small w (pow-pos w) i;
+  }
+
+  module _ (hx : x < 2 ^ w) (hy : y < 2 ^ w) where
+    pub div-at-64 : alu 64 Div x y ≡ alu w Div x y
+    unfolding alu
+    div-at-64 = simp (cut-small w {x = x} hx, cut-small w {x = y} hy, cut-64 {x = x} (number-wider w 64 small hx), cut-64 {x = y} (number-wider w 64 small hy))
+
+    pub mod-at-64 : alu 64 Mod x y ≡ alu w Mod x y
+    unfolding alu
+    mod-at-64 = simp (cut-small w {x = x} hx, cut-small w {x = y} hy, cut-64 {x = x} (number-wider w 64 small hx), cut-64 {x = y} (number-wider w 64 small hy))
+
+-- ---- sound pairs
+pub among-is-sound : (w : ℕ) (op : Operation) (a b : Bits) (m : ℕ) → w ≤ 64 → m < 2 ^ 64
+    → ((x y : ℕ) → Mem w a x → Mem w b y → Covers m (alu w op x y)) → Sound 64 (Image w (alu w op) a b) (among m)
+among-is-sound w op a b m l h c =
+    covered-is-sound 64 (Image w (alu w op) a b) m h
+    (λ z i. subst (λ (n : ℕ). (n < 2 ^ 64) × Covers m n) (sym (i .4))
+    (number-wider w 64 l (result-below w op (i .0) (i .1)), c (i .0) (i .1) (i .2) (i .3)))
+
+pub low-among : (w m : ℕ) → low w (among m) ≡ among (m % 2 ^ w)
+unfolding low among cut
+low-among w m = ap (λ (v : ℕ). record { value = v; mask = m % 2 ^ w }) (zero-mod (2 ^ w))
+
+module _ (w : ℕ) (small : w ≤ 64) (a : Bits) (ga : Well w a) where
+  pub top-fits : top a < 2 ^ 64
+  top-fits = number-wider w 64 small (mem-top w a ga .fits)
+
+  pub at-most-top : (x : ℕ) → Mem w a x → x ≤ top a
+  at-most-top x h = covered-is-at-most (top a) x (top-covers w a ga x h) w (h .fits) (mem-top w a ga .fits)
+
+module _ (w : ℕ) (small : w ≤ 64) (a b : Bits) (ga : Well w a) (gb : Well w b) where
+  exact-sound : (op : Operation) → bitOr (a .mask) (b .mask) ≡ 0 → Sound 64 (Image w (alu w op) a b) (exactly (alu w op (a .value) (b .value)))
+  exact-sound op e =
+      let z = both-known (a .mask) (b .mask) e in
+      sound-wider w 64 small _ _ (best-sound w _ _ (exact-best w op a b ga gb (z .0) (z .1)))
+
+  pub product-sound : Sound 64 (Image w (alu w Mul) a b) (low w (product a b))
+  unfolding product known cut
+  product-sound =
+      by-cases (λ (r : Bits). Sound 64 (Image w (alu w Mul) a b) (low w r)) (eqb (bitOr (a .mask) (b .mask)) 0)
+      (λ e. subst (λ (r : Bits). Sound 64 (Image w (alu w Mul) a b) r) (sym (exact-product-is w small (a .value) (b .value))) (exact-sound Mul (eqb-true _ _ e)))
+      (λ e. subst (λ (r : Bits). Sound 64 (Image w (alu w Mul) a b) r) (sym (low-among w m))
+      (among-is-sound w Mul a b (m % 2 ^ w) small (lt-of-le-of-lt (mod-le m (2 ^ w)) (product-mask-fits (top a) (top b)))
+      (λ x y hx hy. subst (λ (n : ℕ). Covers (m % 2 ^ w) n) (low-of-the-product w small x y)
+      (cut-is-covered m ((x * y) % 2 ^ 64) (product-mask-covers (top a) (top b) (top-fits w small a ga) (top-fits w small b gb) x y
+      (number-wider w 64 small (hx .fits)) (number-wider w 64 small (hy .fits)) (top-covers w a ga x hx) (top-covers w b gb y hy)) w))))
+    where
+      m : ℕ
+      m = productMask (top a) (top b)
+
+  -- by a power of two the best pair, and else a bound no more than the greatest dividend
+  divided-sound : (op : Operation) (p : Bits) (t : ℕ) → alu 64 op (a .value) (b .value) ≡ alu w op (a .value) (b .value)
+      → ((b .mask ≡ 0) × (b .value ≡ 2 ^ power b) → Best w (Image w (alu w op) a b) p)
+      → t ≤ top a → ((x y : ℕ) → Mem w a x → Mem w b y → alu w op x y ≤ t)
+      → Sound 64 (Image w (alu w op) a b) (cond (known a b) (exactly (alu 64 op (a .value) (b .value))) (cond (ltb (power b) 64) p (among (upTo t))))
+  unfolding known
+  divided-sound op p t same by-power least most =
+      by-cases P (eqb (bitOr (a .mask) (b .mask)) 0) (λ e. subst (λ (n : ℕ). P (exactly n)) (sym same) (exact-sound op (eqb-true _ _ e)))
+      (λ e. by-cases P (ltb (power b) 64) (λ i. sound-wider w 64 small _ _ (best-sound w _ _ (by-power (power-is b (ltb-true _ _ i)))))
+      (λ i. among-is-sound w op a b (upTo t) small (up-to-is-no-longer t fits 64 fits) (λ x y hx hy. up-to-covers t fits _ (most x y hx hy))))
+    where
+      P : Bits → Type 0
+      P r = Sound 64 (Image w (alu w op) a b) r
+
+      fits : t < 2 ^ 64
+      fits = lt-of-le-of-lt least (top-fits w small a ga)
+
+  pub quotient-sound : Sound 64 (Image w (alu w Div) a b) (quotient a b)
+  unfolding quotient
+  quotient-sound =
+      divided-sound Div _ _ (div-at-64 w small _ _ (ga .value-fits) (gb .value-fits))
+      (λ p. quotient-by-power-best b (power b) (p .0) (p .1) w a ga gb) (highest-quotient-at-most (top a) (b .value))
+      (λ x y hx hy. quotient-at-most w x y (hx .fits) (hy .fits) (top a) (b .value) (at-most-top w small a ga x hx) (mem-bounds w b gb y hy .0))
+
+  pub rest-sound : Sound 64 (Image w (alu w Mod) a b) (rest a b)
+  unfolding rest
+  rest-sound =
+      divided-sound Mod _ _ (mod-at-64 w small _ _ (ga .value-fits) (gb .value-fits))
+      (λ p. rest-by-power-best b (power b) (p .0) (p .1) w a ga gb) (highest-rest-at-most (top a) (b .value) (top b))
+      (λ x y hx hy. rest-at-most w x y (hx .fits) (hy .fits) (top a) (b .value) (top b) (at-most-top w small a ga x hx)
+      (mem-bounds w b gb y hy .0) (at-most-top w small b gb y hy))

@@ -1,8 +1,8 @@
 -- The definitions reject wrong answers: one that leaves out a number is not sound, one that covers too much is not best. And the best
--- pairs that were found by enumeration are those of the laws that the functions are proved by. Assumes nothing.
+-- pairs that were found by enumeration are those of the formulas. Assumes nothing.
 use mathlib.Core.Path.{_≡_, refl, ap}
 use mathlib.Core.Bool.{true}
-use mathlib.Core.Logic.{inr}
+use mathlib.Core.Logic.{inl, inr}
 use Prim.Native.Nat.{ℕ, _≤_, _^_}
 use native.Mathlib.Omega.{arith}
 use lib.Bits.{bitAnd, bitOr, bitXor}
@@ -11,14 +11,13 @@ use borrow.Author.Tests.{ltb-true}
 use Rattle.word.specs.Word.{alu, cut, shiftSigned}
 use Rattle.word.specs.declared.Operation.the-variants.{Add, Sub, And, Or, Xor, Lsh, Arsh}
 use Rattle.known_bits.specs.declared.Bits.{Bits}
+use Rattle.known_bits.specs.Formula.{low, sum, difference, digits, parity, shiftedBy, joined, shifted, formula, calculated}
 use Rattle.known_bits.specs.KnownBits.{Well, Sound, Best, Results, Either}
 use Rattle.known_bits.specs.Pair.{top}
 use Rattle.known_bits.proofs.Tight.{mem-least, mem-top}
 use Rattle.known_bits.proofs.Laws.{mem-bounds, mem-within, unique}
-use Rattle.known_bits.proofs.Operations.{add-best, sub-best, and-best, or-best, xor-best}
-use Rattle.known_bits.proofs.ByCount.{lsh-best, arsh-best}
-use Rattle.known_bits.proofs.Class4.{class-4, cut-best}
-use Rattle.known_bits.proofs.Joined.{join-best}
+use Rattle.known_bits.proofs.Computing.{calculated-computed}
+use Rattle.known_bits.proofs.Joined.{joined-best}
 
 abbrev pair : ℕ → ℕ → Bits
 pair v m = record { value = v; mask = m }
@@ -41,76 +40,72 @@ module _ (S : ℕ → Type 0) (p : Bits) where
 -- ---- the best pairs; the names have the numbers in hexadecimal
 
 pub add-of-1/0-and-0/1-is-0/3 : Best 64 (Results 64 Add (pair 1 0) (pair 0 1)) (pair 0 3)
-unfolding alu cut
-add-of-1/0-and-0/1-is-0/3 = add-best 64 _ _ (form 1 0 refl refl refl) (form 0 1 refl refl refl)
+unfolding calculated formula low sum alu cut
+add-of-1/0-and-0/1-is-0/3 = calculated-computed 64 (inl refl) Add _ _ .best tt (form 1 0 refl refl refl) (form 0 1 refl refl refl)
 
 pub add-of-f0/c-and-8/3-is-0/1ff : Best 64 (Results 64 Add (pair 240 12) (pair 8 3)) (pair 0 511)
-unfolding alu cut
-add-of-f0/c-and-8/3-is-0/1ff = add-best 64 _ _ (form 240 12 refl refl refl) (form 8 3 refl refl refl)
+unfolding calculated formula low sum alu cut
+add-of-f0/c-and-8/3-is-0/1ff = calculated-computed 64 (inl refl) Add _ _ .best tt (form 240 12 refl refl refl) (form 8 3 refl refl refl)
 
 pub add-of-40/f-and-0/f0-is-0/1ff : Best 64 (Results 64 Add (pair 64 15) (pair 0 240)) (pair 0 511)
-unfolding alu cut
-add-of-40/f-and-0/f0-is-0/1ff = add-best 64 _ _ (form 64 15 refl refl refl) (form 0 240 refl refl refl)
+unfolding calculated formula low sum alu cut
+add-of-40/f-and-0/f0-is-0/1ff = calculated-computed 64 (inl refl) Add _ _ .best tt (form 64 15 refl refl refl) (form 0 240 refl refl refl)
 
 pub add-of-ffffffffffffffff/0-and-0/1-is-0/ffffffffffffffff : Best 64 (Results 64 Add (pair 18446744073709551615 0) (pair 0 1)) (pair 0 18446744073709551615)
-unfolding alu cut
-add-of-ffffffffffffffff/0-and-0/1-is-0/ffffffffffffffff = add-best 64 _ _ (form 18446744073709551615 0 refl refl refl) (form 0 1 refl refl refl)
+unfolding calculated formula low sum alu cut
+add-of-ffffffffffffffff/0-and-0/1-is-0/ffffffffffffffff = calculated-computed 64 (inl refl) Add _ _ .best tt (form 18446744073709551615 0 refl refl refl) (form 0 1 refl refl refl)
 
 pub add-32-of-ffffffff/0-and-0/1-is-0/ffffffff : Best 64 (Results 32 Add (pair 4294967295 0) (pair 0 1)) (pair 0 4294967295)
-unfolding alu cut
-add-32-of-ffffffff/0-and-0/1-is-0/ffffffff =
-    let ga = form 4294967295 0 refl refl refl in
-    let gb = form 0 1 refl refl refl in
-    class-4 Add _ _ _ _ _ ga gb (cut-best 32 64 (omega arith) _ ga) (cut-best 32 64 (omega arith) _ gb) (λ hx hy. add-best 32 _ _ hx hy)
+unfolding calculated formula low sum alu cut
+add-32-of-ffffffff/0-and-0/1-is-0/ffffffff = calculated-computed 32 (inr refl) Add _ _ .best tt (form 4294967295 0 refl refl refl) (form 0 1 refl refl refl)
 
 pub sub-of-0/0-and-0/1-is-0/ffffffffffffffff : Best 64 (Results 64 Sub (pair 0 0) (pair 0 1)) (pair 0 18446744073709551615)
-unfolding alu cut
-sub-of-0/0-and-0/1-is-0/ffffffffffffffff = sub-best 64 _ _ (form 0 0 refl refl refl) (form 0 1 refl refl refl)
+unfolding calculated formula low difference alu cut
+sub-of-0/0-and-0/1-is-0/ffffffffffffffff = calculated-computed 64 (inl refl) Sub _ _ .best tt (form 0 0 refl refl refl) (form 0 1 refl refl refl)
 
 pub sub-of-10/1-and-0/3-is-0/1f : Best 64 (Results 64 Sub (pair 16 1) (pair 0 3)) (pair 0 31)
-unfolding alu cut
-sub-of-10/1-and-0/3-is-0/1f = sub-best 64 _ _ (form 16 1 refl refl refl) (form 0 3 refl refl refl)
+unfolding calculated formula low difference alu cut
+sub-of-10/1-and-0/3-is-0/1f = calculated-computed 64 (inl refl) Sub _ _ .best tt (form 16 1 refl refl refl) (form 0 3 refl refl refl)
 
 pub sub-of-100/0-and-0/ff-is-0/1ff : Best 64 (Results 64 Sub (pair 256 0) (pair 0 255)) (pair 0 511)
-unfolding alu cut
-sub-of-100/0-and-0/ff-is-0/1ff = sub-best 64 _ _ (form 256 0 refl refl refl) (form 0 255 refl refl refl)
+unfolding calculated formula low difference alu cut
+sub-of-100/0-and-0/ff-is-0/1ff = calculated-computed 64 (inl refl) Sub _ _ .best tt (form 256 0 refl refl refl) (form 0 255 refl refl refl)
 
 pub and-of-0/ff-and-3c/0-is-0/3c : Best 64 (Results 64 And (pair 0 255) (pair 60 0)) (pair 0 60)
-unfolding alu cut
-and-of-0/ff-and-3c/0-is-0/3c = and-best 64 _ _ (form 0 255 refl refl refl) (form 60 0 refl refl refl)
+unfolding calculated formula low digits alu cut
+and-of-0/ff-and-3c/0-is-0/3c = calculated-computed 64 (inl refl) And _ _ .best tt (form 0 255 refl refl refl) (form 60 0 refl refl refl)
 
 pub or-of-0/f0-and-5/0-is-5/f0 : Best 64 (Results 64 Or (pair 0 240) (pair 5 0)) (pair 5 240)
-unfolding alu cut
-or-of-0/f0-and-5/0-is-5/f0 = or-best 64 _ _ (form 0 240 refl refl refl) (form 5 0 refl refl refl)
+unfolding calculated formula low digits alu cut
+or-of-0/f0-and-5/0-is-5/f0 = calculated-computed 64 (inl refl) Or _ _ .best tt (form 0 240 refl refl refl) (form 5 0 refl refl refl)
 
 pub xor-of-f/f0-and-ff/0-is-0/f0 : Best 64 (Results 64 Xor (pair 15 240) (pair 255 0)) (pair 0 240)
-unfolding alu cut
-xor-of-f/f0-and-ff/0-is-0/f0 = xor-best 64 _ _ (form 15 240 refl refl refl) (form 255 0 refl refl refl)
+unfolding calculated formula low parity alu cut
+xor-of-f/f0-and-ff/0-is-0/f0 = calculated-computed 64 (inl refl) Xor _ _ .best tt (form 15 240 refl refl refl) (form 255 0 refl refl refl)
 
 pub lsh-of-10/f-by-4-is-100/f0 : Best 64 (Results 64 Lsh (pair 16 15) (pair 4 0)) (pair 256 240)
-unfolding alu cut
-lsh-of-10/f-by-4-is-100/f0 = lsh-best 64 6 refl (omega arith) _ _ (form 16 15 refl refl refl) (form 4 0 refl refl refl) 4 refl refl
+unfolding calculated formula low shifted shiftedBy alu cut
+lsh-of-10/f-by-4-is-100/f0 = calculated-computed 64 (inl refl) Lsh _ _ .best refl (form 16 15 refl refl refl) (form 4 0 refl refl refl)
 
 pub arsh-of-8000000000000000/ff-by-4-is-f800000000000000/f : Best 64 (Results 64 Arsh (pair 9223372036854775808 255) (pair 4 0)) (pair 17870283321406128128 15)
-unfolding alu cut shiftSigned
-arsh-of-8000000000000000/ff-by-4-is-f800000000000000/f = arsh-best 64 6 refl (omega arith) _ _ (form 9223372036854775808 255 refl refl refl) (form 4 0 refl refl refl) 4 refl refl
+unfolding calculated formula low shifted shiftedBy alu cut shiftSigned
+arsh-of-8000000000000000/ff-by-4-is-f800000000000000/f = calculated-computed 64 (inl refl) Arsh _ _ .best refl (form 9223372036854775808 255 refl refl refl) (form 4 0 refl refl refl)
 
 pub arsh-32-of-80000000/3-by-1-is-c0000000/1 : Best 64 (Results 32 Arsh (pair 2147483648 3) (pair 1 0)) (pair 3221225472 1)
-unfolding alu cut shiftSigned
-arsh-32-of-80000000/3-by-1-is-c0000000/1 =
-    let ga = form 2147483648 3 refl refl refl in
-    let gb = form 1 0 refl refl refl in
-    class-4 Arsh _ _ _ _ _ ga gb (cut-best 32 64 (omega arith) _ ga) (cut-best 32 64 (omega arith) _ gb) (λ hx hy. arsh-best 32 5 refl (omega arith) _ _ hx hy 1 refl refl)
+unfolding calculated formula low shifted shiftedBy alu cut shiftSigned
+arsh-32-of-80000000/3-by-1-is-c0000000/1 = calculated-computed 32 (inr refl) Arsh _ _ .best refl (form 2147483648 3 refl refl refl) (form 1 0 refl refl refl)
 
 pub arsh-of-0/8000000000000000-by-1-is-0/c000000000000000 : Best 64 (Results 64 Arsh (pair 0 9223372036854775808) (pair 1 0)) (pair 0 13835058055282163712)
-unfolding alu cut shiftSigned
-arsh-of-0/8000000000000000-by-1-is-0/c000000000000000 = arsh-best 64 6 refl (omega arith) _ _ (form 0 9223372036854775808 refl refl refl) (form 1 0 refl refl refl) 1 refl refl
+unfolding calculated formula low shifted shiftedBy alu cut shiftSigned
+arsh-of-0/8000000000000000-by-1-is-0/c000000000000000 = calculated-computed 64 (inl refl) Arsh _ _ .best refl (form 0 9223372036854775808 refl refl refl) (form 1 0 refl refl refl)
 
 pub join-of-4/0-and-6/0-is-4/2 : Best 64 (Either (pair 4 0) (pair 6 0)) (pair 4 2)
-join-of-4/0-and-6/0-is-4/2 = join-best _ _ (form 4 0 refl refl refl) (form 6 0 refl refl refl)
+unfolding joined
+join-of-4/0-and-6/0-is-4/2 = joined-best 64 _ _ (form 4 0 refl refl refl) (form 6 0 refl refl refl)
 
 pub join-of-10/1-and-18/0-is-10/9 : Best 64 (Either (pair 16 1) (pair 24 0)) (pair 16 9)
-join-of-10/1-and-18/0-is-10/9 = join-best _ _ (form 16 1 refl refl refl) (form 24 0 refl refl refl)
+unfolding joined
+join-of-10/1-and-18/0-is-10/9 = joined-best 64 _ _ (form 16 1 refl refl refl) (form 24 0 refl refl refl)
 
 -- ---- the wrong answers: one leaves out a number, one covers all but is too wide
 

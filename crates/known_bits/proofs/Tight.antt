@@ -1,6 +1,6 @@
 -- How a pair is shown to be the best: it has every number of the set, and at each bit that it leaves unknown two of them differ.
 -- Assumes nothing.
-use mathlib.Core.Path.{_≡_, refl, sym, ap, _∙_, subst}
+use mathlib.Core.Path.{_≡_, refl, sym, ap, _∙_}
 use Prim.Native.Nat.{ℕ, zero, suc, _+_, _-_, _%_, _^_, _≤_, _<_, max}
 use native.Mathlib.Omega.{arith}
 use lib.Pow.{pow-lt}
@@ -110,7 +110,3 @@ pub spread-bit : (k s lo hi ma mb : ℕ)
     → bit k (spread s lo hi ma mb .mask) ≡ max (max ((bit k hi + bit k lo) % 2) (bit k ma)) (bit k mb)
 spread-bit k s lo hi ma mb =
     omega (arith, bit-or k (bitOr (bitXor hi lo) ma) mb, bit-or k (bitXor hi lo) ma, bit-xor k hi lo)
-
--- what a function returns, from the formula that its code computes
-pub via : {w : ℕ} {S : ℕ → Type 0} {p r : Bits} → r ≡ p → Best w S p → Best w S r
-via {w} {S} e h = subst (λ (q : Bits). Best w S q) (sym e) h

@@ -1,9 +1,9 @@
-// Known bits: a pair value/mask stands for the numbers that agree with value outside mask. No function has a requires: each says
-// what it gives for pairs that have the form, and gives some pair for any. Assumes nothing.
+// Known bits: a pair value/mask stands for the numbers that agree with value outside mask. No public function has a requires: each gives
+// the pair of its formula, for any pairs, and the formula promises something of pairs that have the form. Assumes nothing.
 pub mod bitwise;
 mod counts;
 pub mod learn;
-mod masks;
+pub mod masks;
 pub mod operation;
 mod pair;
 pub mod paths;

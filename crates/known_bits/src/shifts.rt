@@ -1,66 +1,81 @@
-// The shifts by a known count of any size: value and mask are shifted alike. A pair b is a known count when its low 6 bits, at 32 bits
-// its low 5, are known, whatever the rest is. At 32 bits the operand is cut first. Assumes nothing.
+// The three shifts, by a count that is known, is one of two, or is neither. A count is the low 6 bits of a pair, at 32 bits the low 5.
+// At 32 bits for operands that are cut. Assumes nothing.
 ghost use mathlib.Core.Path.{_≡_};
-ghost use Prim.Native.Nat.{_%_};
-ghost use Rattle.known_bits.specs.KnownBits.{Well, Best, Results};
+ghost use Rattle.word.specs.Word.{alu};
+ghost use Rattle.known_bits.specs.Formula.{shiftedBy, shifted};
+ghost use Rattle.known_bits.specs.Shift.{operation};
 use crate::Bits;
-use crate::paths::cut32;
-use word::Operation;
+use crate::counts::unknown32;
+use crate::counts::unknown64;
+use crate::paths::join;
 
-pub fn lsh64_by(a: Bits, n: u64) -> Bits
-    ensures { λ r. ⌜ ((b : Bits) → Well 64 a → Well 64 b → b .mask % 64 ≡ 0 → n % 64 ≡ b .value % 64 → Best 64 (Results 64 Operation.Lsh a b) r) ⌝ }
+pub enum Shift {
+    Left,
+    Right,
+    Signed,
+}
+
+fn moved64(shift: Shift, x: u64, n: u64) -> u64
+    ensures { λ r. ⌜ r ≡ alu 64 (operation shift) x n ⌝ }
 {
-    Bits {
-        value: word::arithmetic64::lsh64(a.value, n),
-        mask: word::arithmetic64::lsh64(a.mask, n),
+    match shift {
+        Shift::Left => word::arithmetic64::lsh64(x, n),
+        Shift::Right => word::arithmetic64::rsh64(x, n),
+        Shift::Signed => word::arithmetic64::arsh64(x, n),
     }
 }
 
-pub fn rsh64_by(a: Bits, n: u64) -> Bits
-    ensures { λ r. ⌜ ((b : Bits) → Well 64 a → Well 64 b → b .mask % 64 ≡ 0 → n % 64 ≡ b .value % 64 → Best 64 (Results 64 Operation.Rsh a b) r) ⌝ }
+fn moved32(shift: Shift, x: u64, n: u64) -> u64
+    ensures { λ r. ⌜ r ≡ alu 32 (operation shift) x n ⌝ }
 {
-    Bits {
-        value: word::arithmetic64::rsh64(a.value, n),
-        mask: word::arithmetic64::rsh64(a.mask, n),
+    match shift {
+        Shift::Left => word::arithmetic32::lsh32(x, n),
+        Shift::Right => word::arithmetic32::rsh32(x, n),
+        Shift::Signed => word::arithmetic32::arsh32(x, n),
     }
 }
 
-// An unknown sign enters as unknown bits: the mask is shifted with its sign too.
-pub fn arsh64_by(a: Bits, n: u64) -> Bits
-    ensures { λ r. ⌜ ((b : Bits) → Well 64 a → Well 64 b → b .mask % 64 ≡ 0 → n % 64 ≡ b .value % 64 → Best 64 (Results 64 Operation.Arsh a b) r) ⌝ }
+// Value and mask are shifted alike: an unknown sign enters as unknown bits.
+fn by64(shift: Shift, a: Bits, n: u64) -> Bits
+    ensures { λ r. ⌜ r ≡ shiftedBy 64 (operation shift) a n ⌝ }
 {
     Bits {
-        value: word::arithmetic64::arsh64(a.value, n),
-        mask: word::arithmetic64::arsh64(a.mask, n),
+        value: moved64(shift, a.value, n),
+        mask: moved64(shift, a.mask, n),
     }
 }
 
-pub fn lsh32_by(a: Bits, n: u64) -> Bits
-    ensures { λ r. ⌜ ((b : Bits) → Well 64 a → Well 64 b → b .mask % 32 ≡ 0 → n % 32 ≡ b .value % 32 → Best 64 (Results 32 Operation.Lsh a b) r) ⌝ }
+fn by32(shift: Shift, a: Bits, n: u64) -> Bits
+    ensures { λ r. ⌜ r ≡ shiftedBy 32 (operation shift) a n ⌝ }
 {
-    let x = cut32(a);
     Bits {
-        value: word::arithmetic32::lsh32(x.value, n),
-        mask: word::arithmetic32::lsh32(x.mask, n),
+        value: moved32(shift, a.value, n),
+        mask: moved32(shift, a.mask, n),
     }
 }
 
-pub fn rsh32_by(a: Bits, n: u64) -> Bits
-    ensures { λ r. ⌜ ((b : Bits) → Well 64 a → Well 64 b → b .mask % 32 ≡ 0 → n % 32 ≡ b .value % 32 → Best 64 (Results 32 Operation.Rsh a b) r) ⌝ }
+pub fn shift64(shift: Shift, a: Bits, b: Bits) -> Bits
+    ensures { λ r. ⌜ r ≡ shifted 64 (operation shift) a b ⌝ }
 {
-    let x = cut32(a);
-    Bits {
-        value: word::arithmetic32::rsh32(x.value, n),
-        mask: word::arithmetic32::rsh32(x.mask, n),
+    let m = b.mask % 64;
+    if m == 0 {
+        return by64(shift, a, b.value);
     }
+    if m & (m - 1) == 0 {
+        return join(by64(shift, a, b.value), by64(shift, a, b.value | b.mask));
+    }
+    unknown64(shift, a, b)
 }
 
-pub fn arsh32_by(a: Bits, n: u64) -> Bits
-    ensures { λ r. ⌜ ((b : Bits) → Well 64 a → Well 64 b → b .mask % 32 ≡ 0 → n % 32 ≡ b .value % 32 → Best 64 (Results 32 Operation.Arsh a b) r) ⌝ }
+pub fn shift32(shift: Shift, a: Bits, b: Bits) -> Bits
+    ensures { λ r. ⌜ r ≡ shifted 32 (operation shift) a b ⌝ }
 {
-    let x = cut32(a);
-    Bits {
-        value: word::arithmetic32::arsh32(x.value, n),
-        mask: word::arithmetic32::arsh32(x.mask, n),
+    let m = b.mask % 32;
+    if m == 0 {
+        return by32(shift, a, b.value);
     }
+    if m & (m - 1) == 0 {
+        return join(by32(shift, a, b.value), by32(shift, a, b.value | b.mask));
+    }
+    unknown32(shift, a, b)
 }

@@ -6,10 +6,10 @@ use Rattle.console.proofs.bits.work64.Statement.{statement}
 use Rattle.console.proofs.bits.work64.Tie as tie
 
 returns : tie.Need-returns
-returns c = rw (c .before .before .task .given .1) (serves-alu _ _ _ _ _ (c .alu64 .ensures .sound))
+returns c = rw (c .before .before .task .given .1) (serves-alu _ _ _ _ _ (c .alu64 .ensures .1 .sound))
 
 returns-2 : tie.Need-returns-2
-returns-2 c = rw (c .before .enum-told .given .1) (serves-join _ _ _ (c .join .ensures .1))
+returns-2 c = rw (c .before .enum-told .given .1) (serves-join _ _ _ (c .join .ensures .1 .1))
 
 returns-3 : tie.Need-returns-3
 returns-3 c = rw (c .enum-told2 .given .1) (serves-all _ _)

@@ -1,20 +1,13 @@
--- `or32` gives the best pair of OR, 32 bits: the formula of `or-best` for operands that are cut.
+-- `or32` is the formula.
 -- Assumes nothing.
+use Rattle.known_bits.specs.Formula.{digits}
 use borrow.Author.Needs.{needs}
-use Rattle.word.specs.declared.Operation.the-variants.{Or}
-use Rattle.known_bits.proofs.Tight.{via}
-use Rattle.known_bits.proofs.Operations.{or-best}
-use Rattle.known_bits.proofs.Class4.{class-4}
 use Rattle.known_bits.proofs.bitwise.or32.Statement.{statement}
 use Rattle.known_bits.proofs.bitwise.or32.Tie as tie
 
 returns : tie.Need-returns
-returns c =
-    λ ga gb. class-4 Or _ _ _ _ _ ga gb
-    (c .before .before .before .before .before .before .cut32 .ensures ga) (c .before .before .before .before .before .cut322 .ensures gb)
-    (λ hx hy. via (cc) (or-best 32 _ _ hx hy))
+unfolding digits
+returns c = cc
 
 pub or32-spec : {M : Type 1} → statement M
-or32-spec =
-    tie.close
-    (tie.spec (λ c κs. search needs) (λ c κs. search needs) (λ c κs. search needs) (λ c κs. search needs) (λ c κs. search needs) returns)
+or32-spec = tie.close (tie.spec (λ c κs. search needs) (λ c κs. search needs) (λ c κs. search needs) returns)

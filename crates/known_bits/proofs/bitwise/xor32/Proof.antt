@@ -1,18 +1,13 @@
--- `xor32` gives the best pair of XOR, 32 bits: the formula of `xor-best` for operands that are cut.
+-- `xor32` is the formula.
 -- Assumes nothing.
+use Rattle.known_bits.specs.Formula.{parity}
 use borrow.Author.Needs.{needs}
-use Rattle.word.specs.declared.Operation.the-variants.{Xor}
-use Rattle.known_bits.proofs.Tight.{via}
-use Rattle.known_bits.proofs.Operations.{xor-best}
-use Rattle.known_bits.proofs.Class4.{class-4}
 use Rattle.known_bits.proofs.bitwise.xor32.Statement.{statement}
 use Rattle.known_bits.proofs.bitwise.xor32.Tie as tie
 
 returns : tie.Need-returns
-returns c =
-    λ ga gb. class-4 Xor _ _ _ _ _ ga gb
-    (c .before .before .before .before .before .cut32 .ensures ga) (c .before .before .before .before .cut322 .ensures gb)
-    (λ hx hy. via (cc) (xor-best 32 _ _ hx hy))
+unfolding parity
+returns c = cc
 
 pub xor32-spec : {M : Type 1} → statement M
-xor32-spec = tie.close (tie.spec (λ c κs. search needs) (λ c κs. search needs) (λ c κs. search needs) (λ c κs. search needs) returns)
+xor32-spec = tie.close (tie.spec (λ c κs. search needs) (λ c κs. search needs) returns)

@@ -1,44 +1,30 @@
--- A number shifted left keeps its low zeros and gets as many as the least count, and is no longer than the greatest one.
+-- `left_mask` is the formula: one shifted by a count is a power of two.
 -- Assumes nothing.
-use native.Mathlib.Nat.{lt-of-le-of-lt, mod-lt}
 use native.Mathlib.Omega.{arith}
-use lib.Bits.{and-le-r}
-use lib.Pow.{pow-pos}
+use mathlib.Core.Path.{ap, ap₂, _∙_}
+use Prim.Native.Nat.{ℕ, _+_}
+use lib.Bits.{bitAnd}
+use lib.Count.{trailing-le}
+use Rattle.known_bits.specs.Formula.{fromBit, upTo, highestProduct, highestShifted, leftMask}
+use Rattle.known_bits.proofs.ProductLaws.{one-shifted-is-the-power}
 use borrow.Author.Needs.{needs}
-use Rattle.known_bits.proofs.Covering.{and-keeps-zeros, ones-cover-all-below, zeros-of-a-shift}
-use Rattle.known_bits.proofs.Base.{both-cover, covered-is-at-most}
 use Rattle.known_bits.proofs.counts.left_mask.Statement.{statement}
 use Rattle.known_bits.proofs.counts.left_mask.Tie as tie
 
-returns : tie.Need-returns
-returns c = record {
-  below = λ n l h. absurd (omega arith);
-  multiple = λ n l h. absurd (omega arith);
-  covers = λ x n hx p lo hi. ones-cover-all-below 64 _ (mod-lt _ (pow-pos 64));
-}
+add-from-bit : tie.Need-add-from-bit
+add-from-bit c = record { fits = omega (arith, trailing-le 64 (c .before .args .t)) }
 
-returns-2 : tie.Need-returns-2
-returns-2 c =
-    let low = c .before .before .from-bit in
-    let high = c .up-to in
-    let greatest = c .before .highest-shifted in
-    let zeros = c .before .before .before .trailing in
-    record {
-      below = λ n l h. lt-of-le-of-lt (and-le-r (low .result) (high .result)) (high .ensures .0 _ (greatest .ensures .0 n h));
-      multiple = λ n l h. and-keeps-zeros (low .result) (high .result) _
-          (low .ensures .0 _ (λ i. omega (arith, zeros .ensures .1 .0 n h (omega arith))));
-      covers = λ x n hx p lo hi. both-cover _ _ _ (low .ensures .1 _ (zeros-of-a-shift x _ _ n lo (zeros .ensures .1 .1 x p)))
-          (high .ensures .1 _ (greatest .ensures .1 x n (covered-is-at-most _ x p 64 hx (omega arith)) hi));
-    }
+returns : tie.Need-returns
+unfolding leftMask highestShifted
+returns c =
+    let a = c .before .before .before .before .args in
+    let o = one-shifted-is-the-power (a .most) (omega arith) in
+    ap₂ bitAnd (c .before .before .from-bit .ensures ∙ ap (λ (n : ℕ). fromBit (n + a .least)) (c .before .before .before .trailing .ensures))
+    (c .up-to .ensures ∙ ap upTo (c .before .highest-product .ensures ∙ ap (highestProduct (a .t)) o))
 
 pub left-mask-spec : {M : Type 1} → statement M
 left-mask-spec =
     tie.close
     (tie.spec
-    returns
-    (λ c κs. search needs)
-    (λ c. search needs)
-    (λ c κs. search needs)
-    (λ c κs. search needs)
-    (λ c κs. search needs)
-    returns-2)
+    (λ c κs. search needs) add-from-bit (λ c κs. search needs) (λ c. search needs) (λ c κs. search needs)
+    (λ c κs. search needs) returns)

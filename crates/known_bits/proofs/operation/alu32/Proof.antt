@@ -1,58 +1,23 @@
--- `alu32`: each operation by its function.
+-- `alu32` is the formula for operands that are cut; what it promises is a law.
 -- Assumes nothing.
-use lib.Dec.{lit≤}
-use Rattle.known_bits.proofs.Computing.{best-computed, sound-computed}
+use mathlib.Core.Path.{refl, sym, ap₂, _∙_, subst}
+use mathlib.Core.Logic.{inr}
+use Rattle.known_bits.specs.declared.Bits.{Bits}
+use Rattle.known_bits.specs.Computed.{Computed}
+use Rattle.known_bits.specs.Formula.{formula, calculated}
+use Rattle.known_bits.proofs.Computing.{calculated-computed}
 use borrow.Author.Needs.{needs}
 use Rattle.known_bits.proofs.operation.alu32.Statement.{statement}
 use Rattle.known_bits.proofs.operation.alu32.Tie as tie
 
 returns : tie.Need-returns
-returns c = rw (c .before .enum-told .given .1) (best-computed 32 _ _ _ _ (lit≤ tt) (search needs) (search needs) (c .add32 .ensures))
-
-returns-2 : tie.Need-returns-2
-returns-2 c = rw (c .before .enum-told2 .given .1) (best-computed 32 _ _ _ _ (lit≤ tt) (search needs) (search needs) (c .sub32 .ensures))
-
-returns-3 : tie.Need-returns-3
-returns-3 c = rw (c .before .enum-told3 .given .1) (sound-computed 32 _ _ _ _ (λ d. d) (c .mul32 .ensures .1 .0) (c .mul32 .ensures .1 .1))
-
-returns-4 : tie.Need-returns-4
-returns-4 c = rw (c .before .enum-told4 .given .1) (sound-computed 32 _ _ _ _ (λ d. d) (c .div32 .ensures .1 .0) (c .div32 .ensures .1 .1))
-
-returns-5 : tie.Need-returns-5
-returns-5 c = rw (c .before .enum-told5 .given .1) (best-computed 32 _ _ _ _ (lit≤ tt) (search needs) (search needs) (c .or32 .ensures))
-
-returns-6 : tie.Need-returns-6
-returns-6 c = rw (c .before .enum-told6 .given .1) (best-computed 32 _ _ _ _ (lit≤ tt) (search needs) (search needs) (c .and32 .ensures))
-
-returns-7 : tie.Need-returns-7
-returns-7 c = rw (c .before .enum-told7 .given .1) (c .lsh32 .ensures)
-
-returns-8 : tie.Need-returns-8
-returns-8 c = rw (c .before .enum-told8 .given .1) (c .rsh32 .ensures)
-
-returns-9 : tie.Need-returns-9
-returns-9 c = rw (c .before .enum-told9 .given .1) (best-computed 32 _ _ _ _ (lit≤ tt) (search needs) (search needs) (c .neg32 .ensures _))
-
-returns-10 : tie.Need-returns-10
-returns-10 c = rw (c .before .enum-told10 .given .1) (sound-computed 32 _ _ _ _ (λ d. d) (c .mod32 .ensures .1 .0) (c .mod32 .ensures .1 .1))
-
-returns-11 : tie.Need-returns-11
-returns-11 c = rw (c .before .enum-told11 .given .1) (best-computed 32 _ _ _ _ (lit≤ tt) (search needs) (search needs) (c .xor32 .ensures))
-
-returns-12 : tie.Need-returns-12
-returns-12 c = rw (c .before .enum-told12 .given .1) (best-computed 32 _ _ _ _ (lit≤ tt) (search needs) (search needs) (c .mov32 .ensures _))
-
-returns-13 : tie.Need-returns-13
-returns-13 c = rw (c .before .enum-told13 .given .1) (c .arsh32 .ensures)
+unfolding calculated
+returns c =
+    let op = c .before .before .before .args .op in
+    let a = c .before .before .before .args .a in
+    let b = c .before .before .before .args .b in
+    let e = c .formula32 .ensures ∙ ap₂ (formula 32 op) (c .before .before .cut32 .ensures .0) (c .before .cut322 .ensures .0) in
+    (e, subst (λ (r : Bits). Computed 32 op a b r) (sym e) (calculated-computed 32 (inr refl) op a b))
 
 pub alu32-spec : {M : Type 1} → statement M
-alu32-spec =
-    tie.close
-    (tie.spec
-    (λ c. search needs) (λ c κs. search needs) (λ c. search needs) (λ c κs. search needs) (λ c. search needs)
-    (λ c κs. search needs) (λ c. search needs) (λ c κs. search needs) (λ c. search needs) (λ c κs. search needs)
-    (λ c. search needs) (λ c κs. search needs) (λ c. search needs) (λ c κs. search needs) (λ c. search needs)
-    (λ c κs. search needs) (λ c. search needs) (λ c κs. search needs) (λ c. search needs) (λ c κs. search needs)
-    (λ c. search needs) (λ c κs. search needs) (λ c. search needs) (λ c κs. search needs) (λ c. search needs)
-    (λ c κs. search needs) returns returns-2 returns-3 returns-4 returns-5 returns-6 returns-7 returns-8 returns-9
-    returns-10 returns-11 returns-12 returns-13)
+alu32-spec = tie.close (tie.spec (λ c κs. search needs) (λ c κs. search needs) (λ c κs. search needs) returns)

@@ -1,58 +1,24 @@
--- `alu64`: each operation by its function.
+-- `alu64` is the formula, since a word is cut to itself; what the formula promises is a law.
 -- Assumes nothing.
-use lib.Dec.{lit≤}
-use Rattle.known_bits.proofs.Computing.{best-computed, sound-computed}
+use mathlib.Core.Path.{refl, sym, ap₂, _∙_, subst}
+use mathlib.Core.Logic.{inl}
+use Rattle.known_bits.specs.declared.Bits.{Bits}
+use Rattle.known_bits.specs.Computed.{Computed}
+use Rattle.known_bits.specs.Formula.{formula, calculated}
+use Rattle.known_bits.proofs.Class4.{low-same}
+use Rattle.known_bits.proofs.Computing.{calculated-computed}
 use borrow.Author.Needs.{needs}
 use Rattle.known_bits.proofs.operation.alu64.Statement.{statement}
 use Rattle.known_bits.proofs.operation.alu64.Tie as tie
 
 returns : tie.Need-returns
-returns c = rw (c .before .enum-told .given .1) (best-computed 64 _ _ _ _ (lit≤ tt) (search needs) (search needs) (c .add64 .ensures))
-
-returns-2 : tie.Need-returns-2
-returns-2 c = rw (c .before .enum-told2 .given .1) (best-computed 64 _ _ _ _ (lit≤ tt) (search needs) (search needs) (c .sub64 .ensures))
-
-returns-3 : tie.Need-returns-3
-returns-3 c = rw (c .before .enum-told3 .given .1) (sound-computed 64 _ _ _ _ (λ d. d) (c .mul64 .ensures .1 .0) (c .mul64 .ensures .1 .1))
-
-returns-4 : tie.Need-returns-4
-returns-4 c = rw (c .before .enum-told4 .given .1) (sound-computed 64 _ _ _ _ (λ d. d) (c .div64 .ensures .1 .0) (c .div64 .ensures .1 .1))
-
-returns-5 : tie.Need-returns-5
-returns-5 c = rw (c .before .enum-told5 .given .1) (best-computed 64 _ _ _ _ (lit≤ tt) (search needs) (search needs) (c .or64 .ensures))
-
-returns-6 : tie.Need-returns-6
-returns-6 c = rw (c .before .enum-told6 .given .1) (best-computed 64 _ _ _ _ (lit≤ tt) (search needs) (search needs) (c .and64 .ensures))
-
-returns-7 : tie.Need-returns-7
-returns-7 c = rw (c .before .enum-told7 .given .1) (c .lsh64 .ensures)
-
-returns-8 : tie.Need-returns-8
-returns-8 c = rw (c .before .enum-told8 .given .1) (c .rsh64 .ensures)
-
-returns-9 : tie.Need-returns-9
-returns-9 c = rw (c .before .enum-told9 .given .1) (best-computed 64 _ _ _ _ (lit≤ tt) (search needs) (search needs) (c .neg64 .ensures _))
-
-returns-10 : tie.Need-returns-10
-returns-10 c = rw (c .before .enum-told10 .given .1) (sound-computed 64 _ _ _ _ (λ d. d) (c .mod64 .ensures .1 .0) (c .mod64 .ensures .1 .1))
-
-returns-11 : tie.Need-returns-11
-returns-11 c = rw (c .before .enum-told11 .given .1) (best-computed 64 _ _ _ _ (lit≤ tt) (search needs) (search needs) (c .xor64 .ensures))
-
-returns-12 : tie.Need-returns-12
-returns-12 c = rw (c .before .enum-told12 .given .1) (best-computed 64 _ _ _ _ (lit≤ tt) (search needs) (search needs) (c .mov64 .ensures _))
-
-returns-13 : tie.Need-returns-13
-returns-13 c = rw (c .before .enum-told13 .given .1) (c .arsh64 .ensures)
+unfolding calculated
+returns c =
+    let op = c .before .args .op in
+    let a = c .before .args .a in
+    let b = c .before .args .b in
+    let e = c .formula64 .ensures ∙ ap₂ (formula 64 op) (low-same 64 a (search needs) (search needs)) (low-same 64 b (search needs) (search needs)) in
+    (e, subst (λ (r : Bits). Computed 64 op a b r) (sym e) (calculated-computed 64 (inl refl) op a b))
 
 pub alu64-spec : {M : Type 1} → statement M
-alu64-spec =
-    tie.close
-    (tie.spec
-    (λ c. search needs) (λ c κs. search needs) (λ c. search needs) (λ c κs. search needs) (λ c. search needs)
-    (λ c κs. search needs) (λ c. search needs) (λ c κs. search needs) (λ c. search needs) (λ c κs. search needs)
-    (λ c. search needs) (λ c κs. search needs) (λ c. search needs) (λ c κs. search needs) (λ c. search needs)
-    (λ c κs. search needs) (λ c. search needs) (λ c κs. search needs) (λ c. search needs) (λ c κs. search needs)
-    (λ c. search needs) (λ c κs. search needs) (λ c. search needs) (λ c κs. search needs) (λ c. search needs)
-    (λ c κs. search needs) returns returns-2 returns-3 returns-4 returns-5 returns-6 returns-7 returns-8 returns-9
-    returns-10 returns-11 returns-12 returns-13)
+alu64-spec = tie.close (tie.spec (λ c κs. search needs) returns)

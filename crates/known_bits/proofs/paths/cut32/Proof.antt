@@ -1,14 +1,15 @@
--- `cut32` gives the best pair for the low 32 bits.
+-- `cut32` is the formula, which gives the best pair for the low 32 bits.
 -- Assumes nothing.
-use native.Mathlib.Omega.{arith}
+use mathlib.Core.Path.{refl}
 use Rattle.word.specs.Word.{cut}
-use Rattle.known_bits.proofs.Class4.{cut-best}
+use Rattle.known_bits.specs.Formula.{low}
+use Rattle.known_bits.proofs.Class4.{low-best}
 use Rattle.known_bits.proofs.paths.cut32.Statement.{statement}
 use Rattle.known_bits.proofs.paths.cut32.Tie as tie
 
 returns : tie.Need-returns
-unfolding cut
-returns c = λ ga. cut-best 32 64 (omega arith) _ ga
+unfolding low cut
+returns c = (refl, λ ga. low-best 32 64 _ ga)
 
 pub cut32-spec : {M : Type 1} → statement M
 cut32-spec = tie.close (tie.spec returns)

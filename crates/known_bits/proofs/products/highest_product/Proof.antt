@@ -1,23 +1,28 @@
--- No product is more than that of the greatest factors, if that fits.
+-- A product fits if the one factor is at most the greatest number by the other.
 -- Assumes nothing.
 use native.Mathlib.Omega.{arith}
-use lib.Pow.{pow-pos}
+use borrow.Author.Tests.{lt-ltb, le-ltb}
+use Rattle.known_bits.specs.Formula.{highestProduct}
+use Rattle.known_bits.proofs.ProductLaws.{product-of-the-greatest-fits, product-that-wraps}
+use native.Mathlib.Nat.{mul-zero}
 use borrow.Author.Needs.{needs}
-use Rattle.known_bits.proofs.ProductLaws.{product-is-no-longer, product-that-wraps-is-long, product-of-the-greatest-fits, product-at-most, product-by-none}
 use Rattle.known_bits.proofs.products.highest_product.Statement.{statement}
 use Rattle.known_bits.proofs.products.highest_product.Tie as tie
 
 returns : tie.Need-returns
-returns c = (λ n m p q. pow-pos _, λ x y p q. product-by-none x y (omega arith))
+unfolding highestProduct
+returns c = rw (c .if1 .taken, mul-zero (c .before .args .t))
 
 mul-result : tie.Need-mul-result
 mul-result c = record { fits = product-of-the-greatest-fits _ _ (omega arith) (omega arith) }
 
 returns-2 : tie.Need-returns-2
-returns-2 c = (product-is-no-longer _ _, λ x y p q. product-at-most x y _ _ p q)
+unfolding highestProduct
+returns-2 c = simp (lt-ltb _ _ (product-of-the-greatest-fits (c .before .before .args .t) (c .before .before .args .u) (omega arith) (omega arith)))
 
 returns-3 : tie.Need-returns-3
-returns-3 c = (λ n m p q. product-that-wraps-is-long _ _ n m (omega arith) (λ l. omega (arith, l)) p q, λ x y p q. omega arith)
+unfolding highestProduct
+returns-3 c = simp (le-ltb _ _ (product-that-wraps (c .before .before .args .t) (c .before .before .args .u) (omega arith) (λ l. omega (arith, l))))
 
 pub highest-product-spec : {M : Type 1} → statement M
 highest-product-spec = tie.close (tie.spec returns (λ c. search needs) mul-result returns-2 returns-3)

@@ -1,17 +1,19 @@
--- `mod64` is exact where both operands are, the low bits by a power of two, and else the mask of the rests.
+-- `mod64` by whether both operands are known, and whether the divisor is a power of two.
 -- Assumes nothing.
 use native.Mathlib.Omega.{arith}
+use mathlib.Core.Path.{sym, ap, _∙_}
+use Prim.Native.Nat.{ℕ, _%_}
+use borrow.Author.Tests.{eq-eqb, ne-eqb, lt-ltb, le-ltb}
+use Rattle.known_bits.specs.Formula.{known, rest, among, upTo}
+use Rattle.known_bits.specs.Pair.{exactly, each}
+use Rattle.known_bits.proofs.ProductLaws.{one-shifted-is-the-power, one-shifted-is-not-zero}
 use borrow.Author.Needs.{needs}
-use Rattle.known_bits.proofs.ProductLaws.{exact-rest-is-below, rests-are-below, bounded-is-below, mod-by-a-power-cuts, mod-mask-is-sound, one-shifted-is-the-power, one-shifted-is-not-zero}
 use Rattle.known_bits.proofs.products.mod64.Statement.{statement}
-use Rattle.known_bits.proofs.Exact.{known-gives-exact, unknown-gives-sound}
 use Rattle.known_bits.proofs.products.mod64.Tie as tie
 
 returns : tie.Need-returns
-returns c = (
-  λ n h. exact-rest-is-below n _ _ h (omega arith) (omega arith) _ (c .mod64 .ensures),
-  known-gives-exact 64 _ _ _ _ (omega arith) (c .before .if1 .taken) (c .mod64 .ensures),
-)
+unfolding rest known
+returns c = simp (eq-eqb _ _ (c .before .if1 .taken)) (ap exactly (c .mod64 .ensures))
 
 rem-t9 : tie.Need-rem-t9
 rem-t9 c = omega (arith, one-shifted-is-not-zero _ (c .before .if2 .taken))
@@ -20,32 +22,23 @@ rem-t11 : tie.Need-rem-t11
 rem-t11 c = omega (arith, one-shifted-is-not-zero _ (c .before .before .if2 .taken))
 
 returns-2 : tie.Need-returns-2
-returns-2 c = (
-  λ n h. rests-are-below n _ _ h,
-  unknown-gives-sound 64 _ _ _ _ (c .before .before .before .before .if1 .left)
-      (λ ga gb. mod-by-a-power-cuts _ _ _ (c .before .before .before .power .ensures (c .before .before .if2 .taken)) ga gb _
-      (one-shifted-is-the-power _ (c .before .before .if2 .taken))),
-)
+unfolding rest known
+returns-2 c =
+    let p = c .before .before .before .power .ensures in
+    let e = one-shifted-is-the-power _ (c .before .before .if2 .taken) in
+    simp (ne-eqb _ _ (c .before .before .before .before .if1 .left), sym p, lt-ltb _ _ (c .before .before .if2 .taken))
+    (ap (λ (d : ℕ). each (λ x. x % d) (c .before .before .before .before .before .before .before .args .a)) e)
 
 returns-3 : tie.Need-returns-3
-returns-3 c = (
-  λ n h. bounded-is-below n _ _ _ (c .before .highest-rest .ensures .0) (c .up-to .ensures .0) h,
-  unknown-gives-sound 64 _ _ _ _ (c .before .before .before .before .before .before .if1 .left)
-      (mod-mask-is-sound _ _ _ (omega arith) _ (c .up-to .ensures .1) (c .before .highest-rest .ensures .1)),
-)
+unfolding rest known among
+returns-3 c =
+    let p = c .before .before .before .before .before .power .ensures in
+    simp (ne-eqb _ _ (c .before .before .before .before .before .before .if1 .left), sym p, le-ltb (c .before .before .before .before .before .power .result) 64 (omega arith))
+    (ap among (c .up-to .ensures ∙ ap upTo (c .before .highest-rest .ensures)))
 
 pub mod64-spec : {M : Type 1} → statement M
 mod64-spec =
     tie.close
     (tie.spec
-    (λ c κs. search needs)
-    returns
-    (λ c κs. search needs)
-    (λ c. search needs)
-    rem-t9
-    (λ c. search needs)
-    rem-t11
-    returns-2
-    (λ c κs. search needs)
-    (λ c κs. search needs)
-    returns-3)
+    (λ c κs. search needs) returns (λ c κs. search needs) (λ c. search needs) rem-t9 (λ c. search needs) rem-t11 returns-2
+    (λ c κs. search needs) (λ c κs. search needs) returns-3)

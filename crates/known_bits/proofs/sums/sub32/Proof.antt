@@ -1,20 +1,13 @@
--- `sub32` gives the best pair of SUB, 32 bits: the formula of `sub-best` for operands that are cut.
+-- `sub32` is the formula.
 -- Assumes nothing.
+use Rattle.known_bits.specs.Formula.{difference}
 use borrow.Author.Needs.{needs}
-use Rattle.word.specs.declared.Operation.the-variants.{Sub}
-use Rattle.known_bits.proofs.Tight.{via}
-use Rattle.known_bits.proofs.Operations.{sub-best}
-use Rattle.known_bits.proofs.Class4.{class-4}
 use Rattle.known_bits.proofs.sums.sub32.Statement.{statement}
 use Rattle.known_bits.proofs.sums.sub32.Tie as tie
 
 returns : tie.Need-returns
-returns c =
-    λ ga gb. class-4 Sub _ _ _ _ _ ga gb
-    (c .before .before .before .before .before .before .before .cut32 .ensures ga) (c .before .before .before .before .before .before .cut322 .ensures gb)
-    (λ hx hy. via (cc) (sub-best 32 _ _ hx hy))
+unfolding difference
+returns c = cc
 
 pub sub32-spec : {M : Type 1} → statement M
-sub32-spec =
-    tie.close
-    (tie.spec (λ c κs. search needs) (λ c κs. search needs) (λ c κs. search needs) (λ c κs. search needs) (λ c κs. search needs) (λ c κs. search needs) returns)
+sub32-spec = tie.close (tie.spec (λ c κs. search needs) (λ c κs. search needs) (λ c κs. search needs) (λ c κs. search needs) returns)
