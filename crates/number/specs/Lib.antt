@@ -1,0 +1,5 @@
+pub mod Compare
+pub mod Computed
+pub mod Meaning
+pub mod Ranges
+pub mod Sharpen
