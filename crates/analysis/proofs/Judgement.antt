@@ -1,0 +1,157 @@
+-- What each answer of the analysis says, in both directions: (1, 0), (2, 0), the reasons of form with their place, and the rest.
+-- Assumes nothing.
+use mathlib.Core.Path.{_≡_, refl, sym, ap, _∙_, subst}
+use mathlib.Core.Bool.{Bool, true, false, cond, true≢false}
+use mathlib.Core.Logic.{_↔_, _⊎_, inl, inr}
+use mathlib.Core.List.{List}
+use Prim.Native.Nat.{ℕ, _+_, _/_, _≤_, _<_}
+use native.Mathlib.Omega.{arith}
+use lib.ListN.{length}
+use Rattle.machine.specs.declared.instruction.Instruction.{Instruction}
+use Rattle.machine.specs.Machine.{badProgram, badRecord}
+use Rattle.analysis.specs.declared.Reason.{Reason}
+use Rattle.analysis.specs.declared.Reason.the-variants.{BadLength, LongRecord, NoCode, WritesR10, JumpsBack, JumpsOut, ReadsUnset, Outside, LeaksAddress}
+use Rattle.analysis.specs.declared.Finding.{Finding}
+use Rattle.analysis.specs.declared.Finding.the-variants.{Accepted, Refused}
+use Rattle.analysis.specs.declared.Judged.{Judged}
+use Rattle.analysis.specs.Form.{instruction, HasForm}
+use Rattle.analysis.specs.Judged.{reasonNumber, Walk, formed, followed, onForm, judged}
+use Rattle.analysis.proofs.Annotated.{refused-not-accepted}
+use Rattle.analysis.proofs.FormLaws.{Fails, Refusal, passes-has-form, has-form-passes, form-refusal}
+use Rattle.analysis.proofs.Refusing.{RefusedAt, followed-refused, followed-late}
+
+-- how an answer comes about
+pub data Cause (program : List ℕ) (R : ℕ) : Judged → Type 0 where
+  length-bad : badProgram (length program) ≡ true → Cause program R (record { finding = Refused BadLength 0; work = 0 })
+  record-long : badProgram (length program) ≡ false → badRecord R ≡ true → Cause program R (record { finding = Refused LongRecord 0; work = 0 })
+  form-fails : badProgram (length program) ≡ false → badRecord R ≡ false → (reason : Reason) (place work : ℕ) → formed program (length program / 8) 0 ≡ Refused reason place
+      → Cause program R (record { finding = Refused reason place; work = work })
+  values-tell : HasForm program R → Cause program R (record { finding = followed program R .finding; work = followed program R .work })
+
+pub judged-cause : (program : List ℕ) (R : ℕ) → Cause program R (judged program R)
+unfolding judged onForm
+judged-cause program R = go (badProgram (length program)) refl (badRecord R) refl (formed program (length program / 8) 0) refl
+  where
+    go : (a : Bool) → badProgram (length program) ≡ a → (b : Bool) → badRecord R ≡ b → (f : Finding) → formed program (length program / 8) 0 ≡ f
+        → Cause program R (cond a (record { finding = Refused BadLength 0; work = 0 }) (cond b (record { finding = Refused LongRecord 0; work = 0 }) (onForm program R f)))
+    go true p b q f e = length-bad p
+    go false p true q f e = record-long p q
+    go false p false q Accepted e = values-tell (passes-has-form program R p q e)
+    go false p false q (Refused reason place) e = form-fails p q reason place (place + 1) e
+
+-- ---- the numbers of the reasons
+
+form-reason : (reason : Reason) (n i : ℕ) (ins : Instruction) → Fails reason n i ins → (3 ≤ reasonNumber reason) × (reasonNumber reason ≤ 6)
+unfolding reasonNumber
+form-reason BadLength n i ins h = absurd h
+form-reason LongRecord n i ins h = absurd h
+form-reason NoCode n i ins h = (omega arith, omega arith)
+form-reason WritesR10 n i ins h = (omega arith, omega arith)
+form-reason JumpsBack n i ins h = (omega arith, omega arith)
+form-reason JumpsOut n i ins h = (omega arith, omega arith)
+form-reason ReadsUnset n i ins h = absurd h
+form-reason Outside n i ins h = absurd h
+form-reason LeaksAddress n i ins h = absurd h
+
+-- no reason's number is 0, which says that a program is accepted
+pub reason-not-0 : (reason : Reason) → 0 < reasonNumber reason
+unfolding reasonNumber
+reason-not-0 BadLength = omega arith
+reason-not-0 LongRecord = omega arith
+reason-not-0 NoCode = omega arith
+reason-not-0 WritesR10 = omega arith
+reason-not-0 JumpsBack = omega arith
+reason-not-0 JumpsOut = omega arith
+reason-not-0 ReadsUnset = omega arith
+reason-not-0 Outside = omega arith
+reason-not-0 LeaksAddress = omega arith
+
+abbrev pub number : Finding → ℕ
+number Accepted = 0
+number (Refused reason place) = reasonNumber reason
+
+-- where the values are followed the number is 0 or at least 7
+values-number : (program : List ℕ) (R : ℕ) → HasForm program R → (f : Finding) → followed program R .finding ≡ f → 0 < number f → 7 ≤ number f
+values-number program R form Accepted e l = absurd (omega arith)
+values-number program R form (Refused reason place) e l = followed-late program R form reason place e
+
+module _ (program : List ℕ) (R : ℕ) where
+  abbrev Numbered : Judged → Type 0
+  Numbered j =
+      (number (j .finding) ≡ 1 → badProgram (length program) ≡ true) × (number (j .finding) ≡ 2 → (badProgram (length program) ≡ false) × (badRecord R ≡ true))
+      × (badProgram (length program) ≡ true → j .finding ≡ Refused BadLength 0)
+      × ((badProgram (length program) ≡ false) × (badRecord R ≡ true) → j .finding ≡ Refused LongRecord 0)
+
+  refused-form : (reason : Reason) (place : ℕ) → formed program (length program / 8) 0 ≡ Refused reason place → (3 ≤ reasonNumber reason) × (reasonNumber reason ≤ 6)
+  refused-form reason place e =
+      form-reason reason (length program / 8) place (instruction program place) (form-refusal program reason place e .fails-first .fails)
+
+  numbered : (j : Judged) → Cause program R j → Numbered j
+  unfolding reasonNumber
+  numbered j (length-bad p) = (λ e. p, λ e. absurd (omega arith), λ e. refl, λ h. absurd (true≢false (sym p ∙ h .0)))
+  numbered j (record-long p q) = (λ e. absurd (omega arith), λ e. (p, q), λ e. absurd (true≢false (sym e ∙ p)), λ h. refl)
+  numbered j (form-fails p q reason place work e) =
+      let b = refused-form reason place e in
+      (λ i. absurd (omega (arith, b .0, i)), λ i. absurd (omega (arith, b .0, i)), λ i. absurd (true≢false (sym i ∙ p)), λ h. absurd (true≢false (sym (h .1) ∙ q)))
+  numbered j (values-tell form) =
+      let v = values-number program R form (followed program R .finding) refl in (
+        λ e. absurd (omega (arith, v (omega (arith, e)), e)),
+        λ e. absurd (omega (arith, v (omega (arith, e)), e)),
+        λ e. absurd (true≢false (sym e ∙ form .good-length)),
+        λ h. absurd (true≢false (sym (h .1) ∙ form .good-record)),
+      )
+
+  pub answers-1 : (judged program R .finding ≡ Refused BadLength 0) ↔ (badProgram (length program) ≡ true)
+  unfolding reasonNumber
+  answers-1 = let n = numbered (judged program R) (judged-cause program R) in (λ e. n .0 (ap number e), n .2)
+
+  pub answers-2 : (judged program R .finding ≡ Refused LongRecord 0) ↔ ((badProgram (length program) ≡ false) × (badRecord R ≡ true))
+  unfolding reasonNumber
+  answers-2 = let n = numbered (judged program R) (judged-cause program R) in (λ e. n .1 (ap number e), n .3)
+
+  abbrev Placed : Judged → Type 0
+  Placed j = (reason : Reason) (place : ℕ) → j .finding ≡ Refused reason place → 3 ≤ reasonNumber reason
+      → ((reasonNumber reason ≤ 6) × Refusal program reason 0 place) ⊎ ((7 ≤ reasonNumber reason) × HasForm program R × RefusedAt program R (followed program R) reason place)
+
+  placed : (j : Judged) → Cause program R j → Placed j
+  unfolding reasonNumber
+  placed j (length-bad p) reason place e l = absurd (omega (arith, ap number e, l))
+  placed j (record-long p q) reason place e l = absurd (omega (arith, ap number e, l))
+  placed j (form-fails p q s x work f) reason place e l = inl (refused-form reason place (f ∙ e) .1, form-refusal program reason place (f ∙ e))
+  placed j (values-tell form) reason place e l = inr (followed-late program R form reason place e, form, followed-refused program R form reason place e)
+
+  -- a refusal with reason 3 to 6 names the first index that fails, with the lowest reason there; one with 7 to 9 is for the values
+  pub answers-place : Placed (judged program R)
+  answers-place = placed (judged program R) (judged-cause program R)
+
+  -- a program has the form if and only if it is not refused for its form
+  abbrev FormTold : Judged → Type 0
+  FormTold j = HasForm program R ↔ ((number (j .finding) ≡ 0) ⊎ (7 ≤ number (j .finding)))
+
+  zero-or-late : (f : Finding) → followed program R .finding ≡ f → HasForm program R → (number f ≡ 0) ⊎ (7 ≤ number f)
+  zero-or-late Accepted e form = inl refl
+  zero-or-late (Refused reason place) e form = inr (followed-late program R form reason place e)
+
+  form-told : (j : Judged) → Cause program R j → FormTold j
+  unfolding reasonNumber
+  form-told j (length-bad p) = (λ h. absurd (true≢false (sym p ∙ h .good-length)), λ n. absurd (small n))
+    where
+      small : (_≡_ {A = ℕ} 1 0) ⊎ (7 ≤ 1) → ⊥
+      small (inl e) = omega arith
+      small (inr e) = omega arith
+  form-told j (record-long p q) = (λ h. absurd (true≢false (sym q ∙ h .good-record)), λ n. absurd (small n))
+    where
+      small : (_≡_ {A = ℕ} 2 0) ⊎ (7 ≤ 2) → ⊥
+      small (inl e) = omega arith
+      small (inr e) = omega arith
+  form-told j (form-fails p q reason place work e) =
+      let b = refused-form reason place e in
+      (λ h. absurd (refused-not-accepted reason place (sym e ∙ has-form-passes program R h)), λ n. absurd (between (reasonNumber reason) (b .0) (b .1) n))
+    where
+      between : (m : ℕ) → 3 ≤ m → m ≤ 6 → (m ≡ 0) ⊎ (7 ≤ m) → ⊥
+      between m l u (inl e) = omega arith
+      between m l u (inr e) = omega arith
+  form-told j (values-tell form) = (λ h. zero-or-late (followed program R .finding) refl form, λ n. form)
+
+  pub answers-form : FormTold (judged program R)
+  answers-form = form-told (judged program R) (judged-cause program R)

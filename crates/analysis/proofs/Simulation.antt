@@ -1,0 +1,517 @@
+-- The machine does under every layout what the layout-free machine does, until that is stuck; so a layout-free run to a verdict is the run
+-- of the interpreter's definition, with every budget, and what is left of it does not depend on the layout. Assumes nothing.
+use mathlib.Core.Path.{_≡_, refl, sym, ap, ap₂, _∙_, subst}
+use mathlib.Core.Bool.{Bool, true, false, cond, _&&_, _||_}
+use mathlib.Core.Logic.{_⊎_, inl, inr, ⊎-elim}
+use mathlib.Core.List.{List, [], _∷_, _++_, map}
+use Prim.Native.Nat.{ℕ, zero, suc, _+_, _-_, _/_, _%_, _^_, _≤_, _<_}
+use native.Mathlib.Nat.{mod-eq-of-lt, mod-mod, mod-add-mod, add-mod-mod, add-assoc, add-comm}
+use native.Mathlib.Decide.{decLt}
+use native.Mathlib.Omega.{arith}
+use lib.ListN.{length, getD, set, replicate, length-replicate, List·getD-map}
+use lib.Dec.{eqb, leb, ltb}
+use borrow.Author.Tests.{leb-true, leb-false, le-leb, lt-leb}
+use Rattle.word.specs.Word.{cut, alu, compare, readBytes, writeBytes}
+use Rattle.word.specs.declared.Operation.{Operation}
+use Rattle.word.specs.declared.Operation.the-variants.{Add, Sub, Mul, Div, Or, And, Lsh, Rsh, Mod, Xor, Mov, Arsh}
+use Rattle.word.specs.declared.Operation.the-variants as operation
+use Rattle.word.specs.declared.Comparison.{Comparison}
+use Rattle.word.proofs.Bytes.{write-length}
+use Rattle.machine.specs.declared.instruction.Width.{Width}
+use Rattle.machine.specs.declared.instruction.Width.the-variants.{Long, Short}
+use Rattle.machine.specs.declared.instruction.Size.{Size}
+use Rattle.machine.specs.declared.instruction.Size.the-variants.{One, Two, Four, Eight}
+use Rattle.machine.specs.declared.instruction.Operand.{Operand}
+use Rattle.machine.specs.declared.instruction.Operand.the-variants.{Immediate, Register}
+use Rattle.machine.specs.declared.instruction.Instruction.{Instruction}
+use Rattle.machine.specs.declared.instruction.Instruction.the-variants.{Alu, Neg, Jump, Always, Exit, Load, Store, NoInstruction}
+use Rattle.machine.specs.declared.memory.Loaded.{Loaded}
+use Rattle.machine.specs.declared.memory.Loaded.the-variants.{Value, Nowhere}
+use Rattle.machine.specs.declared.outcome.Outcome.{Outcome}
+use Rattle.machine.specs.declared.outcome.Outcome.the-variants.{Verdict, Budget}
+use Rattle.machine.specs.Instruction.{decode, readsOperand, readsDst, reads, writes}
+use Rattle.machine.specs.Machine.{World, Content, Unset, Holds, State, After, content, held, value, operandValue, put, jumped, bits, bytes, address, within, afterLoad, afterStore, effect, isNoInstruction, names10, isUnset, anyUnset, obey, step, Done, next, runs, start}
+use Rattle.machine.specs.Machine as machine
+use Rattle.analysis.specs.declared.Region.{Region}
+use Rattle.analysis.specs.declared.Region.the-variants.{Record, Stack}
+use Rattle.analysis.specs.Effects.{Role, copies, converts, adds, subtracts, calculates, role, limit}
+use Rattle.analysis.specs.Form.{instruction}
+use Rattle.analysis.proofs.LayoutFree.{Cell, unset, number, offset, Config, Course, stuck, ends, goes, cellOf, operandCell, putCell, copied, calculated, summed, subtracted, worked, region, loadedAt, loaded, storedAt, stored, jumpedTo, forked, exited, free, after, Comes, at-once, later, startConfig}
+
+pub map-set : {A B : Type 0} (f : A → B) (l : List A) (i : ℕ) (a : A) → map f (set l i a) ≡ set (map f l) i (f a)
+map-set f [] i a = refl
+map-set f (x ∷ xs) zero a = refl
+map-set f (x ∷ xs) (suc i) a = ap (λ t. f x ∷ t) (map-set f xs i a)
+
+-- ---- moving an address by a number moves its offset by it
+
+offset-moves : (A o c : ℕ) → (A + (o % 2 ^ 64 + c) % 2 ^ 64) % 2 ^ 64 ≡ ((A + o) % 2 ^ 64 % 2 ^ 64 + c) % 2 ^ 64
+offset-moves A o c =
+    add-mod-mod A (o % 2 ^ 64 + c) (2 ^ 64) ∙ ap (λ n. n % 2 ^ 64) (sym (add-assoc A (o % 2 ^ 64) c)) ∙ sym (mod-add-mod (A + o % 2 ^ 64) (2 ^ 64) c)
+    ∙ ap (λ n. (n + c) % 2 ^ 64) (add-mod-mod A o (2 ^ 64) ∙ sym (mod-mod (A + o) (2 ^ 64)))
+
+add-moves : (A o b : ℕ) → (A + alu 64 Add o b) % 2 ^ 64 ≡ alu 64 Add ((A + o) % 2 ^ 64) b
+unfolding alu cut
+add-moves A o b = offset-moves A o (b % 2 ^ 64)
+
+add-moves-back : (A o a : ℕ) → (A + alu 64 Add o a) % 2 ^ 64 ≡ alu 64 Add a ((A + o) % 2 ^ 64)
+unfolding alu cut
+add-moves-back A o a = offset-moves A o (a % 2 ^ 64) ∙ ap (λ n. n % 2 ^ 64) (add-comm ((A + o) % 2 ^ 64 % 2 ^ 64) (a % 2 ^ 64))
+
+sub-moves : (A o b : ℕ) → (A + alu 64 Sub o b) % 2 ^ 64 ≡ alu 64 Sub ((A + o) % 2 ^ 64) b
+unfolding alu cut
+sub-moves A o b = offset-moves A o (2 ^ 64 - b % 2 ^ 64)
+
+address-moves : (A o off : ℕ) → (A + alu 64 Add o off) % 2 ^ 64 ≡ address ((A + o) % 2 ^ 64) off
+unfolding alu cut address
+address-moves A o off =
+    offset-moves A o (off % 2 ^ 64) ∙ ap (λ n. (n + off % 2 ^ 64) % 2 ^ 64) (mod-mod (A + o) (2 ^ 64)) ∙ add-mod-mod ((A + o) % 2 ^ 64) off (2 ^ 64)
+
+-- ---- a layout-free configuration under a layout
+
+module _ (w : World) where
+  abbrev pub base : Region → ℕ
+  base Record = w .P
+  base Stack = w .S
+
+  abbrev pub conc : Cell → Content
+  conc unset = Unset
+  conc (number n) = Holds n
+  conc (offset p o) = Holds ((base p + o) % 2 ^ 64)
+
+  abbrev pub concrete : Config → State
+  concrete c = record { registers = map conc (c .registers); stack = c .stack; index = c .index }
+
+  -- the machine did the same, unless the layout-free one was stuck
+  abbrev Same : Course → After → Type 0
+  Same stuck o = Unit {0}
+  Same (ends v) o = o ≡ machine.ends v
+  Same (goes c) o = o ≡ machine.goes (concrete c)
+
+  content-conc : (c : Config) (r : ℕ) → content (concrete c) r ≡ conc (cellOf c r)
+  unfolding content cellOf
+  content-conc c r = List·getD-map conc (c .registers) r unset
+
+  operand-unset : (c : Config) (s : Operand) → anyUnset (concrete c) (readsOperand s) ≡ isUnset (conc (operandCell c s))
+  unfolding anyUnset readsOperand operandCell isUnset
+  operand-unset c (Immediate n) = refl
+  operand-unset c (Register r) = ap (λ b. isUnset b || false) (content-conc c r) ∙ or-false (isUnset (conc (cellOf c r)))
+    where
+      or-false : (b : Bool) → (b || false) ≡ b
+      or-false true = refl
+      or-false false = refl
+
+  operand-conc : (c : Config) (s : Operand) → operandValue (concrete c) s ≡ held (conc (operandCell c s))
+  unfolding operandValue operandCell value held
+  operand-conc c (Immediate n) = refl
+  operand-conc c (Register r) = ap held (content-conc c r)
+
+  -- an instruction that passes the tests has its effect
+  obeyed : (t : State) (i : Instruction) → isNoInstruction i ≡ false → names10 (writes i) ≡ false → anyUnset t (reads i) ≡ false → obey w t i ≡ effect w t i
+  unfolding obey
+  obeyed t i p q r = rw (p, q, r) refl
+
+  put-same : (c : Config) (d : ℕ) (x : Cell) (v : ℕ) (o : After) → conc x ≡ Holds v → (eqb d 10 ≡ false → o ≡ machine.goes (put (concrete c) d v)) → Same (putCell c d x) o
+  unfolding putCell put
+  put-same c d x v o e h = go (eqb d 10) refl
+    where
+      go : (b : Bool) → eqb d 10 ≡ b → Same (cond b stuck (goes (record { registers = set (c .registers) d x; stack = c .stack; index = c .index + 1 }))) o
+      go true q = tt
+      go false q =
+          h q ∙ ap (λ r. machine.goes (record { registers = r; stack = c .stack; index = c .index + 1 }))
+          (ap (set (map conc (c .registers)) d) (sym e) ∙ sym (map-set conc (c .registers) d x))
+
+  -- ---- arithmetic: all operations but MOV read dst and the operand
+  module _ (c : Config) (wd : Width) (op : Operation) (d : ℕ) (s : Operand) where
+    both-read : readsDst op d ≡ d ∷ [] → isUnset (conc (cellOf c d)) ≡ false → isUnset (conc (operandCell c s)) ≡ false
+        → eqb d 10 ≡ false
+        → obey w (concrete c) (Alu wd op d s)
+        ≡ machine.goes (put (concrete c) d (alu (bits wd) op (held (conc (cellOf c d))) (held (conc (operandCell c s)))))
+    unfolding effect reads writes isNoInstruction names10 anyUnset value
+    both-read r x y e =
+        obeyed (concrete c) (Alu wd op d s) refl (rw e refl) (rw r (rw (content-conc c d) (rw x (operand-unset c s ∙ y))))
+        ∙ ap₂ (λ a b. machine.goes (put (concrete c) d (alu (bits wd) op a b))) (ap held (content-conc c d)) (operand-conc c s)
+
+    operand-read : readsDst op d ≡ [] → isUnset (conc (operandCell c s)) ≡ false → eqb d 10 ≡ false
+        → obey w (concrete c) (Alu wd op d s)
+        ≡ machine.goes (put (concrete c) d (alu (bits wd) op (value (concrete c) d) (held (conc (operandCell c s)))))
+    unfolding effect reads writes isNoInstruction names10 anyUnset
+    operand-read r y e =
+        obeyed (concrete c) (Alu wd op d s) refl (rw e refl) (rw r (operand-unset c s ∙ y))
+        ∙ ap (λ b. machine.goes (put (concrete c) d (alu (bits wd) op (value (concrete c) d) b))) (operand-conc c s)
+
+    calculated-same : readsDst op d ≡ d ∷ [] → (x y : Cell) → cellOf c d ≡ x → operandCell c s ≡ y
+        → Same (calculated (bits wd) op c d x y) (obey w (concrete c) (Alu wd op d s))
+    unfolding calculated isUnset held
+    calculated-same r unset y p q = tt
+    calculated-same r (number a) unset p q = tt
+    calculated-same r (number a) (number b) p q =
+        put-same c d (number (alu (bits wd) op a b)) _ _ refl
+        (λ e. both-read r (rw p refl) (rw q refl) e ∙ rw (p, q) refl)
+    calculated-same r (number a) (offset l u) p q = tt
+    calculated-same r (offset k o) y p q = tt
+
+  summed-same : (c : Config) (d : ℕ) (s : Operand) (x y : Cell) → cellOf c d ≡ x → operandCell c s ≡ y
+      → Same (summed c d x y) (obey w (concrete c) (Alu Long Add d s))
+  unfolding summed isUnset held readsDst bits
+  summed-same c d s unset y p q = tt
+  summed-same c d s (number a) unset p q = tt
+  summed-same c d s (number a) (number b) p q =
+      put-same c d (number (alu 64 Add a b)) _ _ refl (λ e. both-read c Long Add d s refl (rw p refl) (rw q refl) e ∙ rw (p, q) refl)
+  summed-same c d s (number a) (offset l u) p q =
+      put-same c d (offset l (alu 64 Add u a)) _ _ (ap Holds (add-moves-back (base l) u a))
+      (λ e. both-read c Long Add d s refl (rw p refl) (rw q refl) e ∙ rw (p, q) refl)
+  summed-same c d s (offset k o) unset p q = tt
+  summed-same c d s (offset k o) (number b) p q =
+      put-same c d (offset k (alu 64 Add o b)) _ _ (ap Holds (add-moves (base k) o b))
+      (λ e. both-read c Long Add d s refl (rw p refl) (rw q refl) e ∙ rw (p, q) refl)
+  summed-same c d s (offset k o) (offset l u) p q = tt
+
+  subtracted-same : (c : Config) (d : ℕ) (s : Operand) (x y : Cell) → cellOf c d ≡ x → operandCell c s ≡ y
+      → Same (subtracted c d x y) (obey w (concrete c) (Alu Long Sub d s))
+  unfolding subtracted isUnset held readsDst bits
+  subtracted-same c d s unset y p q = tt
+  subtracted-same c d s (number a) unset p q = tt
+  subtracted-same c d s (number a) (number b) p q =
+      put-same c d (number (alu 64 Sub a b)) _ _ refl (λ e. both-read c Long Sub d s refl (rw p refl) (rw q refl) e ∙ rw (p, q) refl)
+  subtracted-same c d s (number a) (offset l u) p q = tt
+  subtracted-same c d s (offset k o) unset p q = tt
+  subtracted-same c d s (offset k o) (number b) p q =
+      put-same c d (offset k (alu 64 Sub o b)) _ _ (ap Holds (sub-moves (base k) o b))
+      (λ e. both-read c Long Sub d s refl (rw p refl) (rw q refl) e ∙ rw (p, q) refl)
+  subtracted-same c d s (offset k o) (offset l u) p q = tt
+
+  copied-same : (c : Config) (d : ℕ) (s : Operand) (y : Cell) → operandCell c s ≡ y → Same (copied c d y) (obey w (concrete c) (Alu Long Mov d s))
+  unfolding copied isUnset held readsDst bits alu cut
+  copied-same c d s unset q = tt
+  copied-same c d s (number b) q =
+      put-same c d (number (b % 2 ^ 64)) _ _ refl (λ e. operand-read c Long Mov d s refl (rw q refl) e ∙ rw q refl)
+  copied-same c d s (offset l u) q =
+      put-same c d (offset l u) _ _ (ap Holds (sym (mod-mod (base l + u) (2 ^ 64)))) (λ e. operand-read c Long Mov d s refl (rw q refl) e ∙ rw q refl)
+
+  converted-same : (c : Config) (d : ℕ) (s : Operand) (y : Cell) → operandCell c s ≡ y
+      → Same (calculated 32 Mov c d y y) (obey w (concrete c) (Alu Short Mov d s))
+  unfolding calculated isUnset held readsDst bits alu
+  converted-same c d s unset q = tt
+  converted-same c d s (number b) q =
+      put-same c d (number (cut 32 b)) _ _ refl (λ e. operand-read c Short Mov d s refl (rw q refl) e ∙ rw q refl)
+  converted-same c d s (offset l u) q = tt
+
+  alu-same : (c : Config) (wd : Width) (op : Operation) (d : ℕ) (s : Operand)
+      → Same (worked (role wd op) (bits wd) op c d (cellOf c d) (operandCell c s)) (obey w (concrete c) (Alu wd op d s))
+  unfolding worked role bits readsDst
+  alu-same c Long Add d s = summed-same c d s _ _ refl refl
+  alu-same c Long Sub d s = subtracted-same c d s _ _ refl refl
+  alu-same c Long Mul d s = calculated-same c Long Mul d s refl _ _ refl refl
+  alu-same c Long Div d s = calculated-same c Long Div d s refl _ _ refl refl
+  alu-same c Long Or d s = calculated-same c Long Or d s refl _ _ refl refl
+  alu-same c Long And d s = calculated-same c Long And d s refl _ _ refl refl
+  alu-same c Long Lsh d s = calculated-same c Long Lsh d s refl _ _ refl refl
+  alu-same c Long Rsh d s = calculated-same c Long Rsh d s refl _ _ refl refl
+  alu-same c Long operation.Neg d s = calculated-same c Long operation.Neg d s refl _ _ refl refl
+  alu-same c Long Mod d s = calculated-same c Long Mod d s refl _ _ refl refl
+  alu-same c Long Xor d s = calculated-same c Long Xor d s refl _ _ refl refl
+  alu-same c Long Mov d s = copied-same c d s _ refl
+  alu-same c Long Arsh d s = calculated-same c Long Arsh d s refl _ _ refl refl
+  alu-same c Short Add d s = calculated-same c Short Add d s refl _ _ refl refl
+  alu-same c Short Sub d s = calculated-same c Short Sub d s refl _ _ refl refl
+  alu-same c Short Mul d s = calculated-same c Short Mul d s refl _ _ refl refl
+  alu-same c Short Div d s = calculated-same c Short Div d s refl _ _ refl refl
+  alu-same c Short Or d s = calculated-same c Short Or d s refl _ _ refl refl
+  alu-same c Short And d s = calculated-same c Short And d s refl _ _ refl refl
+  alu-same c Short Lsh d s = calculated-same c Short Lsh d s refl _ _ refl refl
+  alu-same c Short Rsh d s = calculated-same c Short Rsh d s refl _ _ refl refl
+  alu-same c Short operation.Neg d s = calculated-same c Short operation.Neg d s refl _ _ refl refl
+  alu-same c Short Mod d s = calculated-same c Short Mod d s refl _ _ refl refl
+  alu-same c Short Xor d s = calculated-same c Short Xor d s refl _ _ refl refl
+  alu-same c Short Mov d s = converted-same c d s _ refl
+  alu-same c Short Arsh d s = calculated-same c Short Arsh d s refl _ _ refl refl
+
+  neg-same : (c : Config) (wd : Width) (d : ℕ) (x : Cell) → cellOf c d ≡ x
+      → Same (calculated (bits wd) operation.Neg c d x x) (obey w (concrete c) (Neg wd d))
+  unfolding calculated effect reads writes isNoInstruction names10 anyUnset isUnset value held alu
+  neg-same c wd d unset p = tt
+  neg-same c wd d (number a) p =
+      put-same c d _ _ _ refl
+      (λ e. obeyed (concrete c) (Neg wd d) refl (rw e refl) (rw (content-conc c d) (rw p refl))
+      ∙ ap (λ n. machine.goes (put (concrete c) d n)) (rw (content-conc c d) (rw p refl)))
+  neg-same c wd d (offset k o) p = tt
+
+  -- ---- jumps
+  forked-same : (c : Config) (k : Comparison) (d : ℕ) (s : Operand) (off : ℕ) (x y : Cell) → cellOf c d ≡ x → operandCell c s ≡ y
+      → Same (forked k c off x y) (obey w (concrete c) (Jump k d s off))
+  unfolding forked jumpedTo jumped effect reads writes isNoInstruction names10 anyUnset isUnset value held
+  forked-same c k d s off unset y p q = tt
+  forked-same c k d s off (number a) unset p q = tt
+  forked-same c k d s off (number a) (number b) p q =
+      obeyed (concrete c) (Jump k d s off) refl refl (rw (content-conc c d) (rw p (operand-unset c s ∙ rw q refl)))
+      ∙ ap₂ (λ m n. machine.goes (jumped (compare 64 k m n) (concrete c) off)) (ap held (content-conc c d ∙ ap conc p)) (operand-conc c s ∙ ap (λ z. held (conc z)) q)
+  forked-same c k d s off (number a) (offset l u) p q = tt
+  forked-same c k d s off (offset l o) y p q = tt
+
+  exited-same : (c : Config) (x : Cell) → cellOf c 0 ≡ x → Same (exited x) (obey w (concrete c) Exit)
+  unfolding exited effect reads writes isNoInstruction names10 anyUnset isUnset value held
+  exited-same c unset p = tt
+  exited-same c (number v) p =
+      obeyed (concrete c) Exit refl refl (rw (content-conc c 0) (rw p refl)) ∙ ap machine.ends (ap held (content-conc c 0 ∙ ap conc p))
+  exited-same c (offset k o) p = tt
+
+  -- ---- memory, where the record and the stack lie as the unit may lay them
+  pub record Apart : Type 0 where
+    pub small : length (w .rec) ≤ 1024
+    pub record-high : w .P ≤ 2 ^ 47
+    pub stack-high : w .S ≤ 2 ^ 47
+    pub apart : (length (w .rec) ≡ 0) ⊎ ((w .P + length (w .rec) ≤ w .S) ⊎ (w .S + 512 ≤ w .P))
+
+  within-yes : (start len a n : ℕ) → start ≤ a → a + n ≤ start + len → within start len a n ≡ true
+  unfolding within
+  within-yes start len a n p q = rw (le-leb start a p, le-leb (a + n) (start + len) q) refl
+
+  within-no : (start len a n : ℕ) → (a < start) ⊎ (start + len < a + n) → within start len a n ≡ false
+  unfolding within
+  within-no start len a n (inl h) = rw (lt-leb start a h) refl
+  within-no start len a n (inr h) = rw (lt-leb (a + n) (start + len) h) (and-false (leb start a))
+    where
+      and-false : (b : Bool) → (b && false) ≡ false
+      and-false true = refl
+      and-false false = refl
+
+  some-bytes : (z : Size) → 0 < bytes z
+  unfolding bytes
+  some-bytes One = omega arith
+  some-bytes Two = omega arith
+  some-bytes Four = omega arith
+  some-bytes Eight = omega arith
+
+  module _ (ok : Apart) where
+    -- no access within the stack lies in the record too
+    outside-record : (e n : ℕ) → 0 < n → e + n ≤ 512 → within (w .P) (length (w .rec)) (w .S + e) n ≡ false
+    outside-record e n p q =
+        ⊎-elim (λ z. within-no _ _ _ _ (go z (decLt (w .S + e) (w .P))))
+        (⊎-elim (λ z. within-no (w .P) (length (w .rec)) (w .S + e) n (inr (omega arith))) (λ z. within-no (w .P) (length (w .rec)) (w .S + e) n (inl (omega arith)))) (ok .apart)
+      where
+        go : length (w .rec) ≡ 0 → Dec (w .S + e < w .P) → (w .S + e < w .P) ⊎ (w .P + length (w .rec) < w .S + e + n)
+        go z (yes l) = inl l
+        go z (no l) = inr (omega arith)
+
+    found : (c : Config) (z : Size) (p : Region) (e : ℕ) → length (c .stack) ≡ 512 → e + bytes z ≤ limit (length (w .rec)) p
+        → machine.loaded w (c .stack) ((base p + e) % 2 ^ 64) z ≡ Value (readBytes (bytes z) (region (w .rec) c p) e)
+    unfolding machine.loaded limit region
+    found c z Record e l h =
+        rw (mod-eq-of-lt {n = w .P + e} {m = 2 ^ 64} (omega arith))
+        (rw (within-yes (w .P) (length (w .rec)) (w .P + e) (bytes z) (omega arith) (omega arith))
+        (ap (λ i. Value (readBytes (bytes z) (w .rec) i)) (omega arith)))
+    found c z Stack e l h =
+        rw (mod-eq-of-lt {n = w .S + e} {m = 2 ^ 64} (omega arith))
+        (rw (outside-record e (bytes z) (some-bytes z) h, within-yes (w .S) (length (c .stack)) (w .S + e) (bytes z) (omega arith) (omega arith))
+        (ap (λ i. Value (readBytes (bytes z) (c .stack) i)) (omega arith)))
+
+    load-obeyed : (c : Config) (z : Size) (d s off : ℕ) (p : Region) (o : ℕ) → cellOf c s ≡ offset p o → eqb d 10 ≡ false
+        → obey w (concrete c) (Load z d s off) ≡ afterLoad (concrete c) d (machine.loaded w (c .stack) ((base p + alu 64 Add o off) % 2 ^ 64) z)
+    unfolding effect reads writes isNoInstruction names10 anyUnset isUnset value held
+    load-obeyed c z d s off p o e n =
+        obeyed (concrete c) (Load z d s off) refl (rw n refl) (rw (content-conc c s) (rw e refl))
+        ∙ ap (λ a. afterLoad (concrete c) d (machine.loaded w (c .stack) a z))
+        (ap (λ a. address (held a) off) (content-conc c s ∙ ap conc e) ∙ sym (address-moves (base p) o off))
+
+    loaded-same : (c : Config) (z : Size) (d s off : ℕ) → length (c .stack) ≡ 512 → (x : Cell) → cellOf c s ≡ x
+        → Same (loaded (w .rec) (bytes z) c d off x) (obey w (concrete c) (Load z d s off))
+    unfolding loaded loadedAt afterLoad
+    loaded-same c z d s off l unset p = tt
+    loaded-same c z d s off l (number a) p = tt
+    loaded-same c z d s off l (offset k o) p = go (leb (e + bytes z) (limit (length (w .rec)) k)) refl
+      where
+        e : ℕ
+        e = alu 64 Add o off
+
+        go : (b : Bool) → leb (e + bytes z) (limit (length (w .rec)) k) ≡ b
+            → Same (cond b (putCell c d (number (readBytes (bytes z) (region (w .rec) c k) e))) stuck) (obey w (concrete c) (Load z d s off))
+        go true h =
+            put-same c d _ _ _ refl
+            (λ n. load-obeyed c z d s off k o p n ∙ ap (afterLoad (concrete c) d) (found c z k e l (leb-true _ _ h)))
+        go false h = tt
+
+    store-obeyed : (c : Config) (z : Size) (d off : ℕ) (s : Operand) (o b : ℕ) → cellOf c d ≡ offset Stack o → operandCell c s ≡ number b
+        → obey w (concrete c) (Store z d off s) ≡ afterStore w (concrete c) ((w .S + alu 64 Add o off) % 2 ^ 64) z b
+    unfolding effect reads writes isNoInstruction names10 anyUnset isUnset value held
+    store-obeyed c z d off s o b p q =
+        obeyed (concrete c) (Store z d off s) refl refl (rw (content-conc c d) (rw p (operand-unset c s ∙ rw q refl)))
+        ∙ ap₂ (λ a v. afterStore w (concrete c) a z v)
+        (ap (λ a. address (held a) off) (content-conc c d ∙ ap conc p) ∙ sym (address-moves (w .S) o off)) (operand-conc c s ∙ ap (λ y. held (conc y)) q)
+
+    stored-same : (c : Config) (z : Size) (d off : ℕ) (s : Operand) → length (c .stack) ≡ 512 → (x y : Cell) → cellOf c d ≡ x → operandCell c s ≡ y
+        → Same (stored (bytes z) c off x y) (obey w (concrete c) (Store z d off s))
+    unfolding stored storedAt afterStore
+    stored-same c z d off s l unset y p q = tt
+    stored-same c z d off s l (number a) y p q = tt
+    stored-same c z d off s l (offset Record o) y p q = tt
+    stored-same c z d off s l (offset Stack o) unset p q = tt
+    stored-same c z d off s l (offset Stack o) (number b) p q = go (leb (e + bytes z) 512) refl
+      where
+        e : ℕ
+        e = alu 64 Add o off
+
+        go : (t : Bool) → leb (e + bytes z) 512 ≡ t
+            → Same (cond t (goes (record { registers = c .registers; stack = writeBytes (bytes z) (c .stack) e b; index = c .index + 1 })) stuck) (obey w (concrete c) (Store z d off s))
+        go true h =
+            let f : e + bytes z ≤ 512 = leb-true _ _ h in
+            store-obeyed c z d off s o b p q
+            ∙ rw (mod-eq-of-lt {n = w .S + e} {m = 2 ^ 64} (omega arith))
+            (rw (within-yes (w .S) (length (c .stack)) (w .S + e) (bytes z) (omega arith) (omega arith))
+            (ap (λ i. machine.goes (record { registers = map conc (c .registers); stack = writeBytes (bytes z) (c .stack) i b; index = c .index + 1 })) (omega arith)))
+        go false h = tt
+    stored-same c z d off s l (offset Stack o) (offset k u) p q = tt
+
+    -- ---- the simulation
+    pub free-same : (c : Config) (i : Instruction) → length (c .stack) ≡ 512 → Same (free (w .rec) c i) (obey w (concrete c) i)
+    unfolding free jumpedTo jumped effect reads writes isNoInstruction names10 anyUnset
+    free-same c (Alu wd op d s) l = alu-same c wd op d s
+    free-same c (Neg wd d) l = neg-same c wd d _ refl
+    free-same c (Jump k d s off) l = forked-same c k d s off _ _ refl refl
+    free-same c (Always off) l = obeyed (concrete c) (Always off) refl refl refl
+    free-same c Exit l = exited-same c _ refl
+    free-same c (Load z d s off) l = loaded-same c z d s off l _ refl
+    free-same c (Store z d off s) l = stored-same c z d off s l _ _ refl refl
+    free-same c NoInstruction l = tt
+
+-- ---- the stack keeps its size
+
+abbrev Keeps : Config → Course → Type 0
+Keeps c stuck = Unit {0}
+Keeps c (ends v) = Unit {0}
+Keeps c (goes c′) = length (c′ .stack) ≡ length (c .stack)
+
+module _ (c : Config) where
+  guard-keeps : (b : Bool) (c′ : Config) → length (c′ .stack) ≡ length (c .stack) → Keeps c (cond b stuck (goes c′))
+  guard-keeps true c′ e = tt
+  guard-keeps false c′ e = e
+
+  put-keeps : (d : ℕ) (x : Cell) → Keeps c (putCell c d x)
+  unfolding putCell
+  put-keeps d x = guard-keeps (eqb d 10) _ refl
+
+  calculated-keeps : (w : ℕ) (op : Operation) (d : ℕ) (x y : Cell) → Keeps c (calculated w op c d x y)
+  unfolding calculated
+  calculated-keeps w op d unset y = tt
+  calculated-keeps w op d (number a) unset = tt
+  calculated-keeps w op d (number a) (number b) = put-keeps d _
+  calculated-keeps w op d (number a) (offset q u) = tt
+  calculated-keeps w op d (offset p o) y = tt
+
+  worked-keeps : (r : Role) (w : ℕ) (op : Operation) (d : ℕ) (x y : Cell) → Keeps c (worked r w op c d x y)
+  unfolding worked copied summed subtracted
+  worked-keeps copies w op d x unset = tt
+  worked-keeps copies w op d x (number b) = put-keeps d _
+  worked-keeps copies w op d x (offset q u) = put-keeps d _
+  worked-keeps converts w op d x y = calculated-keeps w op d y y
+  worked-keeps adds w op d unset y = tt
+  worked-keeps adds w op d (number a) unset = tt
+  worked-keeps adds w op d (number a) (number b) = put-keeps d _
+  worked-keeps adds w op d (number a) (offset q u) = put-keeps d _
+  worked-keeps adds w op d (offset p o) unset = tt
+  worked-keeps adds w op d (offset p o) (number b) = put-keeps d _
+  worked-keeps adds w op d (offset p o) (offset q u) = tt
+  worked-keeps subtracts w op d unset y = tt
+  worked-keeps subtracts w op d (number a) unset = tt
+  worked-keeps subtracts w op d (number a) (number b) = put-keeps d _
+  worked-keeps subtracts w op d (number a) (offset q u) = tt
+  worked-keeps subtracts w op d (offset p o) unset = tt
+  worked-keeps subtracts w op d (offset p o) (number b) = put-keeps d _
+  worked-keeps subtracts w op d (offset p o) (offset q u) = tt
+  worked-keeps calculates w op d x y = calculated-keeps w op d x y
+
+  loaded-keeps : (rec : List ℕ) (size d off : ℕ) (x : Cell) → Keeps c (loaded rec size c d off x)
+  unfolding loaded loadedAt
+  loaded-keeps rec size d off unset = tt
+  loaded-keeps rec size d off (number a) = tt
+  loaded-keeps rec size d off (offset p o) = go (leb (alu 64 Add o off + size) (limit (length rec) p))
+    where
+      go : (b : Bool) → Keeps c (cond b (putCell c d (number (readBytes size (region rec c p) (alu 64 Add o off)))) stuck)
+      go true = put-keeps d _
+      go false = tt
+
+  stored-keeps : (size off : ℕ) (x y : Cell) → Keeps c (stored size c off x y)
+  unfolding stored storedAt
+  stored-keeps size off unset y = tt
+  stored-keeps size off (number a) y = tt
+  stored-keeps size off (offset Record o) y = tt
+  stored-keeps size off (offset Stack o) unset = tt
+  stored-keeps size off (offset Stack o) (number b) = go (leb (alu 64 Add o off + size) 512)
+    where
+      go : (t : Bool) → Keeps c (cond t (goes (record { registers = c .registers; stack = writeBytes size (c .stack) (alu 64 Add o off) b; index = c .index + 1 })) stuck)
+      go true = write-length size (c .stack) (alu 64 Add o off) b
+      go false = tt
+  stored-keeps size off (offset Stack o) (offset q u) = tt
+
+  forked-keeps : (k : Comparison) (off : ℕ) (x y : Cell) → Keeps c (forked k c off x y)
+  unfolding forked jumpedTo
+  forked-keeps k off unset y = tt
+  forked-keeps k off (number a) unset = tt
+  forked-keeps k off (number a) (number b) = refl
+  forked-keeps k off (number a) (offset q u) = tt
+  forked-keeps k off (offset p o) y = tt
+
+  exited-keeps : (x : Cell) → Keeps c (exited x)
+  unfolding exited
+  exited-keeps unset = tt
+  exited-keeps (number v) = tt
+  exited-keeps (offset p o) = tt
+
+  pub free-keeps : (rec : List ℕ) (i : Instruction) → Keeps c (free rec c i)
+  unfolding free jumpedTo
+  free-keeps rec (Alu w op d s) = worked-keeps (role w op) (bits w) op d _ _
+  free-keeps rec (Neg w d) = calculated-keeps (bits w) operation.Neg d _ _
+  free-keeps rec (Jump k d s off) = forked-keeps k off _ _
+  free-keeps rec (Always off) = refl
+  free-keeps rec Exit = exited-keeps (cellOf c 0)
+  free-keeps rec (Load z d s off) = loaded-keeps rec (bytes z) d off _
+  free-keeps rec (Store z d off s) = stored-keeps (bytes z) off _ _
+  free-keeps rec NoInstruction = tt
+
+-- ---- runs
+
+module _ (program : List ℕ) (w : World) (ok : Apart w) where
+  stepped : (c : Config) → c .index < length program / 8 → step program w (concrete w c) ≡ obey w (concrete w c) (instruction program (c .index))
+  unfolding step instruction
+  stepped c l = rw (lt-leb (length program / 8) (c .index) l) refl
+
+  -- what a run of k steps to the verdict v answers with a budget of b, after n steps
+  abbrev pub answered : ℕ → ℕ → ℕ → ℕ → Outcome
+  answered v k n b = cond (leb k b) (Verdict v (n + k)) (Budget (n + b))
+
+  spent : (v k n : ℕ) → answered v (suc k) n 0 ≡ Budget n
+  spent v k n = rw (lt-leb (suc k) 0 (omega arith)) (ap Budget (omega arith))
+
+  ended : (v n b : ℕ) → answered v 1 n (suc b) ≡ Verdict v (n + 1)
+  ended v n b = rw (le-leb 1 (suc b) (omega arith)) refl
+
+  one-later : (v k n b : ℕ) → answered v k (n + 1) b ≡ answered v (suc k) n (suc b)
+  one-later v k n b = go (leb k b) refl
+    where
+      go : (t : Bool) → leb k b ≡ t → cond t (Verdict v (n + 1 + k)) (Budget (n + 1 + b)) ≡ answered v (suc k) n (suc b)
+      go true e = rw (le-leb (suc k) (suc b) (omega (arith, leb-true k b e))) (ap (Verdict v) (omega arith))
+      go false e = rw (lt-leb (suc k) (suc b) (omega (arith, leb-false k b e))) (ap Budget (omega arith))
+
+  -- a layout-free run is the machine's run under this layout, whatever the budget
+  pub comes-run : {c : Config} {v k : ℕ} {left : ℕ → List ℕ} → length (c .stack) ≡ 512 → Comes program (w .rec) c v k left → (b n : ℕ)
+      → runs program w b n (concrete w c) ≡ record { outcome = answered v k n b; stack = left b }
+  unfolding runs next after
+  comes-run l (at-once {c = c} {v = v} h e) zero n = λ i. record { outcome = sym (spent v 0 n) i; stack = c .stack }
+  comes-run l (at-once {c = c} {v = v} h e) (suc b) n =
+      ap (next (runs program w b) n (concrete w c)) (stepped c h ∙ subst (λ o. Same w o (obey w (concrete w c) (instruction program (c .index)))) e (free-same w ok c (instruction program (c .index)) l))
+      ∙ (λ i. record { outcome = sym (ended v n b) i; stack = c .stack })
+  comes-run l (later {c = c} {v = v} {k = k} {left = left} c′ h e r) zero n = λ i. record { outcome = sym (spent v k n) i; stack = c .stack }
+  comes-run l (later {c = c} {v = v} {k = k} {left = left} c′ h e r) (suc b) n =
+      ap (next (runs program w b) n (concrete w c)) (stepped c h ∙ subst (λ o. Same w o (obey w (concrete w c) (instruction program (c .index)))) e (free-same w ok c (instruction program (c .index)) l))
+      ∙ comes-run (subst (Keeps c) e (free-keeps c (w .rec) (instruction program (c .index))) ∙ l) r b (n + 1)
+      ∙ (λ i. record { outcome = one-later v k n b i; stack = left b })
+
+  pub start-same : concrete w startConfig ≡ start w
+  unfolding startConfig start
+  start-same = λ i. record { registers = Unset ∷ Holds (low i) ∷ Unset ∷ Unset ∷ Unset ∷ Unset ∷ Unset ∷ Unset ∷ Unset ∷ Unset ∷ Holds (high i) ∷ []; stack = replicate 512 0; index = 0 }
+    where
+      low : (w .P + 0) % 2 ^ 64 ≡ w .P
+      low = mod-eq-of-lt {n = w .P + 0} {m = 2 ^ 64} (omega (arith, ok .record-high)) ∙ omega arith
+
+      high : (w .S + 512) % 2 ^ 64 ≡ w .S + 512
+      high = mod-eq-of-lt {n = w .S + 512} {m = 2 ^ 64} (omega (arith, ok .stack-high))

@@ -1,0 +1,5 @@
+pub mod Effects
+pub mod Form
+pub mod Judged
+pub mod Safe
+pub mod Values
