@@ -12,7 +12,7 @@ use borrow.Author.Tests.{ltb-false, eqb-true, not-false, lt-ltb, ne-eqb}
 use Rattle.machine.specs.declared.outcome.Outcome.the-variants.{Refused}
 use Rattle.machine.specs.Machine.{badProgram, badRecord, badStack, badAddress, overlap, refused, interpreted}
 use Rattle.machine.proofs.Refusals.{Broken, program-empty, program-ragged, program-too-long, record-too-long, stack-not-512, record-too-low, record-too-high, stack-too-low, stack-too-high, record-in-stack, refused-broken}
-use Rattle.analysis.specs.Safe.{Laid}
+use Rattle.analysis.specs.Safe.{Laid, Allowed}
 use Rattle.analysis.proofs.Tests.{or-left, or-right}
 
 -- ---- what the tests that are passed say
@@ -34,15 +34,6 @@ no-overlap-apart P R S e = go (ltb 0 R) refl (ltb P (S + 512)) refl (ltb S (P + 
 stack-512 : (l : ℕ) → badStack l ≡ false → l ≡ 512
 unfolding badStack
 stack-512 l e = eqb-true _ _ (not-false _ e)
-
--- the lengths are right, and memory is laid so
-pub record Allowed (program rec stack : List ℕ) (P S : ℕ) : Type 0 where
-  pub good-length : badProgram (length program) ≡ false
-  pub good-record : badRecord (length rec) ≡ false
-  pub world : Laid (length rec)
-  pub same-P : world .P ≡ P
-  pub same-S : world .S ≡ S
-  pub same-stack : world .before ≡ stack
 
 module _ (program rec stack : List ℕ) (P S : ℕ) where
   tests-allow : refused (length program) (length rec) (length stack) P S ≡ false → Allowed program rec stack P S

@@ -2,13 +2,13 @@
 -- Assumes nothing.
 use mathlib.Core.Path.{_≡_}
 use mathlib.Core.Logic.{_⊎_}
-use mathlib.Core.Bool.{cond}
+use mathlib.Core.Bool.{false, cond}
 use mathlib.Core.List.{List}
 use Prim.Native.Nat.{ℕ, _+_, _/_, _^_, _≤_, _<_}
 use lib.ListN.{length, getD}
 use lib.Dec.{leb}
 use Rattle.machine.specs.declared.outcome.Outcome.the-variants.{Verdict, Budget}
-use Rattle.machine.specs.Machine.{Done, interpreted}
+use Rattle.machine.specs.Machine.{Done, badProgram, badRecord, interpreted}
 
 -- where the unit may lay a record of R bytes and the stack, and what the stack's buffer holds before; an empty record overlaps nothing
 pub record Laid (R : ℕ) : Type 0 where
@@ -37,3 +37,12 @@ pub record Answer (program rec : List ℕ) : Type 0 where
 
 unfoldable pub Safe : List ℕ → ℕ → Type 0
 Safe program R = (rec : List ℕ) → length rec ≡ R → Bytes rec → Answer program rec
+
+-- the lengths are right, and memory is laid as the unit may lay it
+pub record Allowed (program rec stack : List ℕ) (P S : ℕ) : Type 0 where
+  pub good-length : badProgram (length program) ≡ false
+  pub good-record : badRecord (length rec) ≡ false
+  pub world : Laid (length rec)
+  pub same-P : world .P ≡ P
+  pub same-S : world .S ≡ S
+  pub same-stack : world .before ≡ stack
