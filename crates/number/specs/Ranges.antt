@@ -34,7 +34,7 @@ productRange a b = cond (ltb (a .hi * b .hi) (2 ^ 64)) (straight 64 Mul a b) (ev
 unfoldable pub quotientRange : Range → Range → Range
 quotientRange a b = cond (eqb (b .lo) 0) (record { lo = 0; hi = cond (eqb (b .hi) 0) 0 (a .hi) }) (crossed 64 Div a b)
 
--- a and b are one block apart from each other's multiples: all of a has the same quotient by the one number of b
+-- b is one number, and all of a have the same quotient by it
 unfoldable pub sameQuotient : Range → Range → Bool
 sameQuotient a b = eqb (b .lo) (b .hi) && eqb (a .lo / b .lo) (a .hi / b .lo)
 

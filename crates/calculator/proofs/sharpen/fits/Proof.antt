@@ -1,0 +1,20 @@
+-- `fits` by whether the size alone is too much.
+-- Assumes nothing.
+use native.Mathlib.Omega.{arith}
+use borrow.Author.Tests.{lt-leb}
+use Rattle.number.specs.Computed.{fits}
+use Prim.Native.Nat.{_+_}
+use Rattle.calculator.proofs.Fitting.{room-is-left}
+use Rattle.calculator.proofs.sharpen.fits.Statement.{statement}
+use Rattle.calculator.proofs.sharpen.fits.Tie as tie
+
+returns : tie.Need-returns
+unfolding fits
+returns c = simp (lt-leb (c .before .before .args .offset .range .hi + c .before .before .args .size) (c .before .before .args .limit) (omega arith))
+
+returns-2 : tie.Need-returns-2
+unfolding fits
+returns-2 c = room-is-left (c .before .before .args .offset .range .hi) (c .before .before .args .size) (c .before .before .args .limit) (omega arith)
+
+pub fits-spec : {M : Type 1} → statement M
+fits-spec = tie.close (tie.spec returns returns-2)
