@@ -28,8 +28,7 @@ use Rattle.number.specs.declared.Refined.the-variants.{Excluded, Possible}
 use Rattle.number.specs.Sharpen.{exact, just}
 use Rattle.number.specs.Computed.{computed, fits}
 use Rattle.number.specs.Compare.{taken, notTaken, refined}
-use Rattle.number.proofs.Computing.{computed-exact}
-use Rattle.number.proofs.AgainstKnown.{refined-exact, refined-exact-excluded}
+use Rattle.number.proofs.Laws.{computed-exact, refined-exact, refined-exact-excluded}
 use Rattle.analysis.specs.declared.Reason.the-variants.{WritesR10, ReadsUnset, Outside, LeaksAddress}
 use Rattle.analysis.specs.declared.Region.{Region}
 use Rattle.analysis.specs.declared.Region.the-variants.{Record, Stack}

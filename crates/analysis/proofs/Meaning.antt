@@ -17,7 +17,7 @@ use Rattle.analysis.specs.declared.Value.the-variants.{Unusable, Plain, 
 use Rattle.analysis.specs.Values.{Facts, sameRegion, joinedGone, joinedValue, joinedValues, joinedFacts, meeting}
 use Rattle.analysis.specs.Safe.{Bytes}
 use Rattle.analysis.proofs.LayoutFree.{Cell, unset, number, offset, Config}
-use Rattle.number.proofs.Known.{joined-covers-left, joined-covers-right}
+use Rattle.number.proofs.Laws.{joined-covers-left, joined-covers-right}
 
 -- a value that may not be used stands for anything
 abbrev pub Stands : Value → Cell → Type 0

@@ -49,9 +49,7 @@ use Rattle.analysis.specs.Judged.{having, withOperand, along, Flow, refu
 use Rattle.analysis.specs.Safe.{Bytes}
 use Rattle.analysis.proofs.LayoutFree.{Cell, unset, number, offset, Config, Course, stuck, ends, goes, cellOf, operandCell, putCell, copied, calculated, summed, subtracted, worked, region, loadedAt, loaded, storedAt, stored, jumpedTo, forked, exited, free}
 use Rattle.analysis.proofs.Meaning.{Stands, StandAll, Describes, Awaits, stand-get, stand-set, stand-learn}
-use Rattle.number.proofs.Known.{exact-in, loaded-in}
-use Rattle.number.proofs.Computing.{computed-sound, fits-sound}
-use Rattle.number.proofs.Compare.{refined-sound}
+use Rattle.number.proofs.Laws.{exact-in, loaded-in, computed-sound, fits-sound, refined-sound}
 
 -- what the instruction holds is of 64 bits
 abbrev pub WordOperand : Operand → Type 0

@@ -22,7 +22,7 @@ use Rattle.analysis.specs.Values.{startFacts}
 use Rattle.analysis.specs.Judged.{Waiting, nobody, send, pass, formed, followed, onForm, judged}
 use Rattle.analysis.specs.Safe.{Laid, Bytes, Answer, Safe}
 use Rattle.analysis.proofs.LayoutFree.{Config, startConfig, Comes}
-use Rattle.number.proofs.Known.{exact-in}
+use Rattle.number.proofs.Laws.{exact-in}
 use Rattle.analysis.proofs.Meaning.{Describes, Awaits}
 use Rattle.analysis.proofs.Simulation.{Apart, concrete, comes-run, start-same}
 use Rattle.analysis.proofs.Tests.{or-false, or-right}

@@ -6,6 +6,7 @@ pub mod Computing
 pub mod Equality
 pub mod Exclusion
 pub mod Known
+pub mod Laws
 pub mod Limits
 pub mod Operands
 pub mod Orders
