@@ -1,0 +1,93 @@
+-- The verifier's answer in each case, and what scratch memory holds then.
+-- Assumes nothing.
+use Prim.Native.Nat.{ℕ, _+_, _*_, _/_, _%_, _≤_, _<_}
+use mathlib.Core.Path.{_≡_, refl, sym, ap, _∙_}
+use mathlib.Core.Bool.{Bool, true, false, not, _||_}
+use mathlib.Core.List.{List}
+use lib.ListN.{length}
+use lib.Dec.{eqb, ltb}
+use native.Mathlib.Omega.{arith}
+use borrow.Author.Tests.{lt-ltb, le-ltb, eqb-true, eqb-false, ltb-false}
+use Rattle.machine.specs.Machine.{badProgram, badRecord}
+use Rattle.analysis.specs.declared.Reason.{Reason}
+use Rattle.analysis.specs.declared.Reason.the-variants.{BadLength, LongRecord}
+use Rattle.analysis.specs.declared.Finding.{Finding}
+use Rattle.analysis.specs.declared.Finding.the-variants.{Accepted, Refused}
+use Rattle.analysis.specs.declared.Judged.{Judged}
+use Rattle.analysis.specs.Judged.{formed, onForm, judged}
+use Rattle.verifier.specs.declared.Answer.{Answer}
+use Rattle.verifier.specs.declared.Answer.the-variants.{Judgement, ScratchTooSmall}
+use Rattle.verifier.specs.Scratch.{words, Followed}
+use Rattle.verifier.specs.Answered.{isAccepted, passesForm, answered, Annotates, Untouched}
+
+-- what the verifier ensures
+abbrev pub Answers : List ℕ → ℕ → List ℕ → List ℕ → Answer → Type 0
+Answers program R m m′ r = (r ≡ answered program R (length m)) × (Annotates program R (length m) m′ × Untouched program R m m′)
+
+true-is-not-false : (b : Bool) → b ≡ true → b ≡ false → ⊥
+true-is-not-false b p q = let z : _≡_ {A = Bool} true false = sym p ∙ q in let y : _≡_ {A = ℕ} 0 1 = cc in omega arith
+
+where-form-fails : (program : List ℕ) (R : ℕ) (m : List ℕ) (r : Answer) → passesForm program R ≡ false → r ≡ Judgement (judged program R)
+    → Answers program R m m r
+unfolding answered
+where-form-fails program R m r fails is =
+    (rw fails is,
+    (record { holds = λ p q j. absurd (true-is-not-false (passesForm program R) p fails) },
+    record { form = λ p. refl; small = λ p. refl }))
+
+pub a-bad-length : (program : List ℕ) (R : ℕ) (m : List ℕ) (r : Answer) → badProgram (length program) ≡ true
+    → r ≡ Judgement (record { finding = Refused BadLength 0; work = 0 }) → Answers program R m m r
+unfolding passesForm judged
+a-bad-length program R m r bad is = where-form-fails program R m r (rw bad) (rw bad is)
+
+pub a-long-record : (program : List ℕ) (R : ℕ) (m : List ℕ) (r : Answer) → badProgram (length program) ≡ false → 1024 < R
+    → r ≡ Judgement (record { finding = Refused LongRecord 0; work = 0 }) → Answers program R m m r
+unfolding passesForm judged badRecord
+a-long-record program R m r good long is = where-form-fails program R m r (rw (good, lt-ltb 1024 R long)) (rw (good, lt-ltb 1024 R long) is)
+
+pub a-test-that-fails : (program : List ℕ) (R : ℕ) (m : List ℕ) (f : Finding) (reason : Reason) (place : ℕ)
+    → badProgram (length program) ≡ false → R ≤ 1024 → f ≡ formed program (length program / 8) 0 → f ≡ Refused reason place
+    → Answers program R m m (Judgement (record { finding = Refused reason place; work = place + 1 }))
+unfolding passesForm judged onForm badRecord isAccepted
+a-test-that-fails program R m f reason place good short tests is =
+    where-form-fails program R m _ (rw (good, le-ltb 1024 R short, sym tests, is)) (rw (good, le-ltb 1024 R short, sym tests, is))
+
+passes : (program : List ℕ) (R : ℕ) (f : Finding) → badProgram (length program) ≡ false → R ≤ 1024
+    → f ≡ formed program (length program / 8) 0 → f ≡ Accepted → passesForm program R ≡ true
+unfolding passesForm badRecord isAccepted
+passes program R f good short tests is = rw (good, le-ltb 1024 R short, sym tests, is)
+
+pub too-little-memory : (program : List ℕ) (R n : ℕ) (m : List ℕ) (f : Finding) → badProgram (length program) ≡ false → R ≤ 1024
+    → f ≡ formed program (length program / 8) 0 → f ≡ Accepted → n ≡ length program / 8 → length m < 56 * n
+    → Answers program R m m (ScratchTooSmall (56 * n))
+unfolding answered words
+too-little-memory program R n m f good short tests is size less =
+    (rw (passes program R f good short tests is, sym size, lt-ltb (length m) (56 * n) less),
+    (record { holds = λ p q j. absurd (true-is-not-false _ (rw (sym size) (lt-ltb (length m) (56 * n) less)) q) },
+    record { form = λ p. refl; small = λ p. refl }))
+
+pub the-values-were-followed : (program : List ℕ) (R n : ℕ) (m m′ : List ℕ) (f : Finding) (r : Judged) → badProgram (length program) ≡ false → R ≤ 1024
+    → f ≡ formed program (length program / 8) 0 → f ≡ Accepted → n ≡ length program / 8 → 56 * n ≤ length m → Followed program R n r m m′
+    → Answers program R m m′ (Judgement r)
+unfolding answered words judged onForm badRecord
+the-values-were-followed program R n m m′ f r good short tests is size enough h =
+    (rw (passes program R f good short tests is, sym size, le-ltb (length m) (56 * n) enough, good, le-ltb 1024 R short, size, sym tests, is) (ap Judgement (h .found)),
+    (record { holds = λ p q j. rw (sym size) (ap (λ w. w j) (h .waits)) },
+    record {
+      form = λ p. absurd (true-is-not-false _ (passes program R f good short tests is) p);
+      small = λ p. absurd (true-is-not-false _ p (rw (sym size) (le-ltb (length m) (56 * n) enough)));
+    }))
+
+-- ---- the length of a program of good form
+
+pub a-good-length : (size : ℕ) → badProgram size ≡ false → (0 < size / 8) × (size / 8 ≤ 4096)
+unfolding badProgram
+a-good-length size h = go (eqb size 0) (eqb (size % 8) 0) (ltb (8 * 4096) size) refl refl refl h
+  where
+    go : (a b d : Bool) → eqb size 0 ≡ a → eqb (size % 8) 0 ≡ b → ltb (8 * 4096) size ≡ d → (a || not b || d) ≡ false → (0 < size / 8) × (size / 8 ≤ 4096)
+    go true b d p q r e = absurd (let y : _≡_ {A = ℕ} 0 1 = cc in omega arith)
+    go false false d p q r e = absurd (let y : _≡_ {A = ℕ} 0 1 = cc in omega arith)
+    go false true true p q r e = absurd (let y : _≡_ {A = ℕ} 0 1 = cc in omega arith)
+    go false true false p q r e =
+        let x : size ≡ 0 → ⊥ = eqb-false _ _ p in let y : size % 8 ≡ 0 = eqb-true _ _ q in let z : size ≤ 8 * 4096 = ltb-false _ _ r in
+        (omega arith, omega arith)

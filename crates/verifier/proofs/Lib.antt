@@ -1,0 +1,7 @@
+pub mod Answers
+pub mod Blocks
+pub mod Permits
+pub mod Promise
+pub mod Steps
+pub mod Tests
+pub mod Words

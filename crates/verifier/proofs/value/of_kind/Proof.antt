@@ -1,0 +1,29 @@
+-- `of_kind`: each kind is a test of the definition.
+-- Assumes nothing.
+use borrow.Author.Tests.{ne-eqb}
+use Rattle.verifier.specs.Scratch.{ofKind}
+use Rattle.verifier.proofs.value.of_kind.Statement.{statement}
+use Rattle.verifier.proofs.value.of_kind.Tie as tie
+
+returns : tie.Need-returns
+unfolding ofKind
+returns c = rw (c .match .keys1)
+
+returns-2 : tie.Need-returns-2
+unfolding ofKind
+returns-2 c = rw (c .match .keys2)
+
+returns-3 : tie.Need-returns-3
+unfolding ofKind
+returns-3 c = rw (c .match .keys3)
+
+returns-4 : tie.Need-returns-4
+unfolding ofKind
+returns-4 c = rw (c .match .keys4)
+
+returns-5 : tie.Need-returns-5
+unfolding ofKind
+returns-5 c = rw (ne-eqb _ _ (c .match .rest .0 .0 .0 .1), ne-eqb _ _ (c .match .rest .0 .0 .1), ne-eqb _ _ (c .match .rest .0 .1), ne-eqb _ _ (c .match .rest .1))
+
+pub of-kind-spec : {M : Type 1} → statement M
+of-kind-spec = tie.close (tie.spec returns returns-2 returns-3 returns-4 returns-5)

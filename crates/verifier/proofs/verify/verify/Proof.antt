@@ -1,0 +1,12 @@
+-- `verify`: the answer is that of `annotate`, and promises what the theorems say.
+-- Assumes nothing.
+use borrow.Author.Needs.{needs}
+use Rattle.verifier.proofs.Promise.{the-answer-promises}
+use Rattle.verifier.proofs.verify.verify.Statement.{statement}
+use Rattle.verifier.proofs.verify.verify.Tie as tie
+
+returns : tie.Need-returns
+returns c = (c .before .before .annotate .ensures .0, the-answer-promises _ _ _ _ (c .before .before .annotate .ensures .0))
+
+pub verify-spec : {M : Type 1} → statement M
+verify-spec = tie.close (tie.spec (λ c κs. search needs) (λ c. search needs) returns)

@@ -1,0 +1,53 @@
+-- The verifier's answer: what is judged, but for scratch memory that is too small, which is answered after the tests on form and before any
+-- test on values. Assumes nothing.
+use mathlib.Core.Path.{_≡_}
+use mathlib.Core.Bool.{Bool, true, false, cond, not, _&&_}
+use mathlib.Core.List.{List}
+use Prim.Native.Nat.{ℕ, _+_, _*_, _/_, _≤_}
+use lib.ListN.{length}
+use lib.Dec.{ltb}
+use Rattle.machine.specs.Machine.{badProgram, badRecord}
+use Rattle.analysis.specs.declared.Finding.{Finding}
+use Rattle.analysis.specs.declared.Finding.the-variants.{Accepted, Refused}
+use Rattle.analysis.specs.Judged.{Waiting, formed, followed, judged}
+use Rattle.analysis.specs.Safe.{Safe}
+use Rattle.verifier.specs.declared.Answer.{Answer}
+use Rattle.verifier.specs.declared.Answer.the-variants.{Judgement, ScratchTooSmall}
+use Rattle.verifier.specs.Scratch.{words, waitingIn}
+
+unfoldable pub isAccepted : Finding → Bool
+isAccepted Accepted = true
+isAccepted (Refused reason place) = false
+
+-- the tests on form are passed
+unfoldable pub passesForm : List ℕ → ℕ → Bool
+passesForm program R = not (badProgram (length program)) && not (badRecord R) && isAccepted (formed program (length program / 8) 0)
+
+unfoldable pub answered : List ℕ → ℕ → ℕ → Answer
+answered program R size =
+    cond (passesForm program R && ltb size (words (length program / 8))) (ScratchTooSmall (words (length program / 8))) (Judgement (judged program R))
+
+-- where the values were followed, scratch memory holds what waits at each index
+pub record Annotates (program : List ℕ) (R size : ℕ) (after : List ℕ) : Type 0 where
+  pub holds : passesForm program R ≡ true → ltb size (words (length program / 8)) ≡ false
+      → (j : ℕ) → waitingIn (length program / 8) after j ≡ followed program R .waiting j
+
+-- where they were not, it is as it was
+pub record Untouched (program : List ℕ) (R : ℕ) (before after : List ℕ) : Type 0 where
+  pub form : passesForm program R ≡ false → after ≡ before
+  pub small : ltb (length before) (words (length program / 8)) ≡ true → after ≡ before
+
+-- ---- what an answer promises
+
+abbrev pub IsYes : Answer → Type 0
+IsYes (Judgement j) = j .finding ≡ Accepted
+IsYes (ScratchTooSmall w) = ⊥
+
+abbrev pub workOf : Answer → ℕ
+workOf (Judgement j) = j .work
+workOf (ScratchTooSmall w) = 0
+
+-- a yes says that the program is safe; little work was done
+pub record Promises (program : List ℕ) (R : ℕ) (r : Answer) : Type 0 where
+  pub yes-is-safe : IsYes r → Safe program R
+  pub work-is-linear : workOf r ≤ 24 * (length program / 8) + 11

@@ -1,0 +1,4 @@
+pub mod Answered
+pub mod Form
+pub mod Permit
+pub mod Scratch

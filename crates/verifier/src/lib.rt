@@ -1,0 +1,38 @@
+// The verifier: the analysis' definition as a routine, in lent memory. On any bytes, any record length and any scratch memory it gives the
+// answer that is defined, and an accepted program is safe. Assumes nothing.
+mod effect;
+mod form;
+mod pass;
+mod scratch;
+mod send;
+mod value;
+pub mod verify;
+use analysis::Judged;
+use analysis::Reason;
+use analysis::Value;
+
+pub enum Answer {
+    Judgement(Judged),
+    ScratchTooSmall { words: u64 },
+}
+
+// How a step of the pass ends, and how much has been done then.
+pub enum Step {
+    Halt { reason: Reason, work: u64 },
+    More { work: u64 },
+}
+
+// What a state that is sent has that the state it comes from has not: nothing, one value, or two.
+pub enum Change {
+    Same,
+    One {
+        dst: u64,
+        value: Value,
+    },
+    Two {
+        dst: u64,
+        value: Value,
+        src: u64,
+        second: Value,
+    },
+}

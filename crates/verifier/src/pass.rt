@@ -1,0 +1,70 @@
+// The pass that follows the values: each index once, after all that comes there.
+// Assumes nothing.
+ghost use mathlib.Core.Path.{_≡_};
+ghost use Prim.Native.Nat.{_+_, _*_, _/_, _≤_, _<_};
+ghost use lib.ListN.{length};
+ghost use Rattle.analysis.specs.Judged as defined;
+ghost use Rattle.verifier.specs.Scratch.{waitingIn, Sent, Followed, Begun};
+use crate::Step;
+use crate::effect::effect_of;
+use crate::scratch::clear;
+use crate::scratch::write_start;
+use crate::send::distribute;
+use analysis::Finding;
+use analysis::Judged;
+use machine::instruction::decode;
+
+fn visit(program: &[u8], n: usize, rlen: u64, m: &mut [u64], i: usize, work: u64) -> Step
+    requires { ⌜ (i < n) × (n ≤ 4096) × (n ≡ length (now program) / 8) × (56 * n ≤ length (now m)) × (work < 1000000) ⌝ }
+    ensures { λ r. ⌜ Sent (defined.visit (now (program .entry)) rlen i (waitingIn n (now (m .entry))) work (waitingIn n (now (m .entry)) i))
+        n i r (now (m .entry)) (now (m .exit)) ⌝ }
+{
+    let place = 56 * i;
+    if m[place] != 1 {
+        return Step::More { work };
+    }
+    let ins = decode(program, i * 8);
+    let e = effect_of(m, place + 1, rlen, n as u64, i as u64, ins);
+    distribute(m, n, i, e, work + 1)
+}
+
+// The start waits at index 0, and nothing elsewhere.
+fn begin(m: &mut [u64], n: usize)
+    requires { ⌜ (0 < n) × (56 * n ≤ length (now m)) ⌝ }
+    ensures { λ r. ⌜ Begun n (now (m .entry)) (now (m .exit)) ⌝ }
+{
+    clear(m, n);
+    write_start(m, 1);
+    m[0] = 1;
+}
+
+pub fn follow(program: &[u8], n: usize, rlen: u64, m: &mut [u64]) -> Judged
+    requires { ⌜ (0 < n) × (n ≤ 4096) × (n ≡ length (now program) / 8) × (56 * n ≤ length (now m)) ⌝ }
+    ensures { λ r. ⌜ Followed (now (program .entry)) rlen n r (now (m .entry)) (now (m .exit)) ⌝ }
+{
+    begin(m, n);
+    let mut work = n as u64 + 11;
+    let mut i = 0;
+    while i < n {
+        let step = visit(program, n, rlen, m, i, work);
+        match step {
+            Step::Halt { reason, work: done } => {
+                return Judged {
+                    finding: Finding::Refused {
+                        reason,
+                        place: i as u64,
+                    },
+                    work: done,
+                };
+            }
+            Step::More { work: done } => {
+                work = done;
+                i += 1;
+            }
+        }
+    }
+    Judged {
+        finding: Finding::Accepted,
+        work,
+    }
+}

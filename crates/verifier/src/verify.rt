@@ -1,0 +1,67 @@
+// The verifier's answer on any program, any record length and any scratch memory.
+// Assumes nothing.
+ghost use mathlib.Core.Path.{_≡_};
+ghost use mathlib.Core.Bool.{true, false};
+ghost use Prim.Native.Nat.{_/_};
+ghost use lib.ListN.{length};
+ghost use Rattle.machine.specs.Machine as machine;
+ghost use Rattle.verifier.specs.Answered.{answered, Annotates, Untouched, Promises};
+use crate::Answer;
+use crate::form::check;
+use crate::pass::follow;
+use analysis::Finding;
+use analysis::Judged;
+use analysis::Reason;
+
+fn bad_program(length: usize) -> bool
+    ensures { λ r. ⌜ r ≡ machine.badProgram length ⌝ }
+{
+    (length == 0) | (length % 8 != 0) | (8 * 4096 < length)
+}
+
+fn refusal(reason: Reason) -> Answer
+    ensures { λ r. ⌜ r ≡ Answer.Judgement (record { finding = Finding.Refused reason 0; work = 0 }) ⌝ }
+{
+    Answer::Judgement(Judged {
+        finding: Finding::Refused { reason, place: 0 },
+        work: 0,
+    })
+}
+
+// Scratch memory holds what waits for each index afterwards, where the values were followed; otherwise it is as it was.
+pub fn annotate(program: &[u8], record_len: u64, scratch: &mut [u64]) -> Answer
+    ensures answer { λ r. ⌜ r ≡ answered (now (program .entry)) record_len (length (now (scratch .entry))) ⌝ }
+    ensures values { λ r. ⌜ Annotates (now (program .entry)) record_len (length (now (scratch .entry))) (now (scratch .exit)) ⌝ }
+    ensures untouched { λ r. ⌜ Untouched (now (program .entry)) record_len (now (scratch .entry)) (now (scratch .exit)) ⌝ }
+{
+    if bad_program(program.len()) {
+        return refusal(Reason::BadLength);
+    }
+    if 1024 < record_len {
+        return refusal(Reason::LongRecord);
+    }
+    let n = program.len() / 8;
+    let form = check(program, n);
+    match form {
+        Finding::Refused { reason, place } => Answer::Judgement(Judged {
+            finding: Finding::Refused { reason, place },
+            work: place + 1,
+        }),
+        Finding::Accepted => {
+            if scratch.len() < 56 * n {
+                return Answer::ScratchTooSmall {
+                    words: 56 * n as u64,
+                };
+            }
+            Answer::Judgement(follow(program, n, record_len, scratch))
+        }
+    }
+}
+
+// A yes is a theorem about the interpreter's definition.
+pub fn verify(program: &[u8], record_len: u64, scratch: &mut [u64]) -> Answer
+    ensures answer { λ r. ⌜ r ≡ answered (now (program .entry)) record_len (length (now (scratch .entry))) ⌝ }
+    ensures promise { λ r. ⌜ Promises (now (program .entry)) record_len r ⌝ }
+{
+    annotate(program, record_len, scratch)
+}
