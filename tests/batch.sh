@@ -1,5 +1,5 @@
 #!/bin/sh
-# The batch command as a person has it: long lines, lines in pieces, a last line without its end, bad usage.
+# The batch command as a person has it: long lines and programs, lines in pieces, a last line without its end, bad usage.
 # The answers to single requests are held by crates/batch/stdout. Ends in 'N passed, M failed'.
 set -u
 cd "$(dirname "$0")/.." || exit 2
@@ -35,6 +35,20 @@ for n in 70001 131071 131072 131073 262144 1000000; do
 done
 same 'a line in pieces' 'verdict 7 2/verdict 7 2/' "$({ printf 'run 0 65536'; sleep 1; printf ' 131072 9 b7000000070000009500000000000000 -\n%s\n' "$asks"; } | ./probewarden batch | lines)"
 same 'many lines' '20000 verdict 7 2' "$(awk -v s="$asks" 'BEGIN { for (i = 0; i < 20000; i++) print s }' | ./probewarden batch | sort | uniq -c | sed 's/^ *//')"
+
+# r1 + 4 - 3, and the byte there
+reads='0701000004000000170100000300000071100000000000009500000000000000'
+# a verify of r0 = 0, n times, and exit
+straight() { awk -v n="$1" 'BEGIN { printf "verify 0 "; for (i = 0; i < n; i++) printf "b700000000000000"; print "9500000000000000" }'; }
+# a verify of n bytes; with 35,000 its line is too long
+zeros() { awk -v n="$1" 'BEGIN { printf "verify 0 "; for (i = 0; i < n; i++) printf "00"; print "" }'; }
+same 'a program that is accepted' '0 0/' "$(echo "verify 2 $reads" | ./probewarden batch | lines)"
+same 'a program that is refused' '8 2/' "$(echo "verify 1 $reads" | ./probewarden batch | lines)"
+same 'a verify between runs' 'verdict 7 2/0 0/verdict 7 2/' "$(printf '%s\nverify 2 %s\n%s\n' "$asks" "$reads" "$asks" | ./probewarden batch | lines)"
+same 'a small program after a large one' '0 0/8 2/' "$({ straight 4095; echo "verify 1 $reads"; } | ./probewarden batch | lines)"
+same '4,096 instructions' '0 0/' "$(straight 4095 | ./probewarden batch | lines)"
+same '4,097 instructions' '1 0/' "$(straight 4096 | ./probewarden batch | lines)"
+same 'programs of 34,990 and 35,000 bytes' '1 0/error/' "$({ zeros 34990; zeros 35000; } | ./probewarden batch | lines)"
 
 ./probewarden 2>/dev/null
 same 'status without a verb' 2 $?

@@ -12,6 +12,12 @@ struct Front {
     long: bool,
 }
 
+// How many bytes of a line stand at the front of the window, and whether a line that was too long goes on past them.
+struct Held {
+    count: usize,
+    long: bool,
+}
+
 // Reads once behind `end`, and answers how many bytes came.
 fn refill(window: &mut [u8], end: usize) -> usize
     requires { ⌜ end ≤ length (now window) ⌝ }
@@ -62,6 +68,7 @@ fn answer_lines(
     program: &mut [u8],
     rec: &mut [u8],
     stack: &mut [u8],
+    scratch: &mut [u64],
     out: &mut [u8],
 ) -> usize
     requires { ⌜ (at ≤ end) × (end ≤ length (now window)) ⌝ }
@@ -75,7 +82,7 @@ fn answer_lines(
             flush(out, o);
             return from;
         }
-        o = respond(&window[from..stop], program, rec, stack, out, o);
+        o = respond(&window[from..stop], program, rec, stack, scratch, out, o);
         o = spare(out, o);
         from = stop + 1;
     }
@@ -125,18 +132,49 @@ fn last(
     program: &mut [u8],
     rec: &mut [u8],
     stack: &mut [u8],
+    scratch: &mut [u64],
     out: &mut [u8],
 )
     requires { ⌜ held ≤ length (now window) ⌝ }
 {
     if held > 0 {
-        let o = respond(&window[0..held], program, rec, stack, out, 0);
+        let o = respond(&window[0..held], program, rec, stack, scratch, out, 0);
         flush(out, o);
     }
 }
 
-// Reads and answers until the input ends. What is held of a line stands at the front of the window.
-fn serve(window: &mut [u8], program: &mut [u8], rec: &mut [u8], stack: &mut [u8], out: &mut [u8]) {
+// Answers the whole lines up to `end`, and moves what is left to the front.
+fn advance(
+    window: &mut [u8],
+    end: usize,
+    long: bool,
+    program: &mut [u8],
+    rec: &mut [u8],
+    stack: &mut [u8],
+    scratch: &mut [u64],
+    out: &mut [u8],
+) -> Held
+    requires { ⌜ end ≤ length (now window) ⌝ }
+    ensures { λ r. ⌜ r .count ≤ end ⌝ }
+{
+    let front = past_long(window, end, long);
+    let from = front.from;
+    let rest = answer_lines(window, from, end, program, rec, stack, scratch, out);
+    slide(window, rest, end);
+    let long = front.long | (end - rest > LONGEST);
+    let count = kept(end - rest);
+    Held { count, long }
+}
+
+// Reads and answers until the input ends.
+fn serve(
+    window: &mut [u8],
+    program: &mut [u8],
+    rec: &mut [u8],
+    stack: &mut [u8],
+    scratch: &mut [u64],
+    out: &mut [u8],
+) {
     let mut turns = u64::MAX;
     let mut held = 0;
     let mut long = false;
@@ -144,25 +182,30 @@ fn serve(window: &mut [u8], program: &mut [u8], rec: &mut [u8], stack: &mut [u8]
         turns -= 1;
         let n = refill(window, held);
         if n == 0 {
-            last(window, held, program, rec, stack, out);
+            last(window, held, program, rec, stack, scratch, out);
             return;
         }
-        let end = held + n;
-        let front = past_long(window, end, long);
-        let from = front.from;
-        let rest = answer_lines(window, from, end, program, rec, stack, out);
-        slide(window, rest, end);
-        long = front.long | (end - rest > LONGEST);
-        held = kept(end - rest);
+        let left = advance(window, held + n, long, program, rec, stack, scratch, out);
+        held = left.count;
+        long = left.long;
     }
 }
 
 // The window takes in the longest line, and a good part of the next. A line's hex has half as many bytes as the line has characters.
+// Scratch memory is enough for 4,096 instructions, 56 words each: no program that passes the tests on form has more.
 fn main() {
     let mut window = [0u8; 131072];
     let mut program = [0u8; 35000];
     let mut rec = [0u8; 35000];
     let mut stack = [0u8; 512];
+    let mut scratch = [0u64; 229376];
     let mut out = [0u8; 65536];
-    serve(&mut window, &mut program, &mut rec, &mut stack, &mut out);
+    serve(
+        &mut window,
+        &mut program,
+        &mut rec,
+        &mut stack,
+        &mut scratch,
+        &mut out,
+    );
 }

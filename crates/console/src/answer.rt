@@ -6,7 +6,7 @@ ghost use Prim.Native.Nat.{_≤_};
 ghost use lib.ListN.{length, take, drop};
 ghost use Rattle.machine.specs.Machine.{interpreted};
 ghost use Rattle.text.specs.Buffer.{Put, chars, decimal, hexadecimal};
-ghost use Rattle.console.specs.Answer.{Told, Replied, Responded, runReply, numberOf, outcomeText, replyText};
+ghost use Rattle.console.specs.Answer.{Told, Replied, Responded, runReply, numberOf, outcomeText, findingText, replyText};
 ghost use Rattle.console.specs.Bits.{askedOf};
 use crate::bits::Asked;
 use crate::bits::read_asked;
@@ -18,6 +18,9 @@ use crate::request::next_word;
 use crate::request::past_four;
 use crate::request::read_bytes;
 use crate::request::read_numbers;
+use crate::verify::reason_number;
+use crate::verify::verify;
+use analysis::Finding;
 use interpreter::interpret;
 use known_bits::Bits;
 use machine::outcome::Cause;
@@ -34,6 +37,7 @@ pub const LONGEST: usize = 70000;
 pub enum Reply {
     Ran(Outcome),
     Pair(Bits),
+    Found(Finding),
     Bad,
 }
 
@@ -86,8 +90,14 @@ fn bits(line: &[u8], from: usize) -> Reply
 }
 
 // The first word is the verb, and each verb has its function.
-fn reply_to(line: &[u8], program: &mut [u8], rec: &mut [u8], stack: &mut [u8]) -> Reply
-    ensures { λ r. ⌜ Replied (now (line .entry)) (length (now (program .entry))) (length (now (rec .entry))) (now (stack .entry)) r ⌝ }
+fn reply_to(
+    line: &[u8],
+    program: &mut [u8],
+    rec: &mut [u8],
+    stack: &mut [u8],
+    scratch: &mut [u64],
+) -> Reply
+    ensures { λ r. ⌜ Replied (now (line .entry)) (length (now (program .entry))) (length (now (rec .entry))) (now (stack .entry)) (length (now (scratch .entry))) r ⌝ }
 {
     if line.len() > LONGEST {
         return Reply::Bad;
@@ -99,6 +109,9 @@ fn reply_to(line: &[u8], program: &mut [u8], rec: &mut [u8], stack: &mut [u8]) -
     }
     if is_word(line, verb, b"run") {
         return run(line, end, program, rec, stack);
+    }
+    if is_word(line, verb, b"verify") {
+        return verify(line, end, program, scratch);
     }
     Reply::Bad
 }
@@ -151,12 +164,24 @@ fn put_bits(out: &mut [u8], at: usize, value: u64, mask: u64) -> usize
     put_hexadecimal(out, j, mask)
 }
 
+fn put_finding(out: &mut [u8], at: usize, finding: Finding) -> usize
+    ensures { λ r. ⌜ Put (now (out .entry)) at (findingText finding) (now (out .exit)) r ⌝ }
+{
+    match finding {
+        Finding::Accepted => put_pair(out, at, b"", 0, 0),
+        Finding::Refused { reason, place } => {
+            put_pair(out, at, b"", reason_number(reason), place)
+        }
+    }
+}
+
 fn put_reply(out: &mut [u8], at: usize, reply: Reply) -> usize
     ensures { λ r. ⌜ Put (now (out .entry)) at (replyText reply) (now (out .exit)) r ⌝ }
 {
     match reply {
         Reply::Ran(outcome) => put_outcome(out, at, outcome),
         Reply::Pair(p) => put_bits(out, at, p.value, p.mask),
+        Reply::Found(finding) => put_finding(out, at, finding),
         Reply::Bad => put_text(out, at, b"error"),
     }
 }
@@ -168,12 +193,13 @@ pub fn respond(
     program: &mut [u8],
     rec: &mut [u8],
     stack: &mut [u8],
+    scratch: &mut [u64],
     out: &mut [u8],
     at: usize,
 ) -> usize
-    ensures { λ r. ⌜ Responded (now (line .entry)) (length (now (program .entry))) (length (now (rec .entry))) (now (stack .entry)) (now (out .entry)) at (now (out .exit)) r ⌝ }
+    ensures { λ r. ⌜ Responded (now (line .entry)) (length (now (program .entry))) (length (now (rec .entry))) (now (stack .entry)) (length (now (scratch .entry))) (now (out .entry)) at (now (out .exit)) r ⌝ }
 {
-    let reply = reply_to(line, program, rec, stack);
+    let reply = reply_to(line, program, rec, stack, scratch);
     let end = put_reply(out, at, reply);
     put(out, end, b'\n')
 }

@@ -3,3 +3,4 @@
 pub mod answer;
 pub mod bits;
 pub mod request;
+pub mod verify;

@@ -70,7 +70,7 @@ pub fn is_word(line: &[u8], word: Word, s: &[u8]) -> bool
     same(&line[start..end], s)
 }
 
-fn decimal_at(line: &[u8], word: Word) -> Number
+pub fn decimal_at(line: &[u8], word: Word) -> Number
     requires { ⌜ Inside (word .start) (word .end) (length (now line)) ⌝ }
     ensures { λ r. ⌜ r ≡ number 10 (part (now (line .entry)) (word .start) (word .end)) ⌝ }
 {
@@ -122,7 +122,7 @@ pub fn read_numbers(line: &[u8], from: usize) -> Numbers
     all_numbers(size, p, s, budget)
 }
 
-fn bytes_at(line: &[u8], word: Word, out: &mut [u8]) -> Bytes
+pub fn bytes_at(line: &[u8], word: Word, out: &mut [u8]) -> Bytes
     requires { ⌜ Inside (word .start) (word .end) (length (now line)) ⌝ }
     ensures { λ r. ⌜ Spelled (part (now (line .entry)) (word .start) (word .end)) (now (out .exit)) (length (now (out .entry))) (spelled (part (now (line .entry)) (word .start) (word .end)) (length (now (out .entry)))) r ⌝ }
 {

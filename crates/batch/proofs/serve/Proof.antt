@@ -8,18 +8,13 @@ use Rattle.batch.proofs.serve.Statement.{statement}
 use Rattle.batch.proofs.serve.Tie as tie
 
 abbrev Inv-loop : tie.InvT-loop
-Inv-loop window₀ program₀ rec₀ stack₀ out₀ turns₀ held₀ long₀ window program rec stack out turns held long = (held ≤ length window) × ((length window ≡ length window₀) × ((length program ≡ length program₀) × ((length rec ≡ length rec₀) × ((length stack ≡ length stack₀) × (length out ≡ length out₀)))))
+Inv-loop window₀ program₀ rec₀ stack₀ scratch₀ out₀ turns₀ held₀ long₀ window program rec stack scratch out turns held long = (held ≤ length window) × ((length window ≡ length window₀) × ((length program ≡ length program₀) × ((length rec ≡ length rec₀) × ((length stack ≡ length stack₀) × ((length scratch ≡ length scratch₀) × (length out ≡ length out₀))))))
 
 abbrev μ-loop : tie.MeasureT-loop
-μ-loop window₀ program₀ rec₀ stack₀ out₀ turns₀ held₀ long₀ window program rec stack out turns held long = turns
+μ-loop window₀ program₀ rec₀ stack₀ scratch₀ out₀ turns₀ held₀ long₀ window program rec stack scratch out turns held long = turns
 
 pub serve-spec : {M : Type 1} → statement M
 serve-spec =
     tie.close
     (tie.spec
-    Inv-loop μ-loop (λ c. search needs) (λ c. search needs) (λ c κs. search needs) (λ c κs. search needs)
-    (λ c. search needs) (λ c. search needs) (λ c. search needs) (λ c. search needs) (λ c. search needs)
-    (λ c. search needs) (λ c. search needs) (λ c κs. search needs) (λ c κs. search needs) (λ c κs. search needs)
-    (λ c. search needs) (λ c. search needs) (λ c κs. search needs) (λ c. search needs) (λ c. search needs)
-    (λ c. search needs) (λ c. search needs) (λ c. search needs) (λ c. search needs) (λ c. search needs)
-    (λ c. search needs))
+    Inv-loop μ-loop (λ c. search needs) (λ c. search needs) (λ c κs. search needs) (λ c κs. search needs) (λ c. search needs) (λ c. search needs) (λ c. search needs) (λ c. search needs) (λ c. search needs) (λ c. search needs) (λ c. search needs) (λ c. search needs) (λ c κs. search needs) (λ c. search needs) (λ c. search needs) (λ c. search needs) (λ c. search needs) (λ c. search needs) (λ c. search needs) (λ c. search needs) (λ c. search needs) (λ c. search needs))

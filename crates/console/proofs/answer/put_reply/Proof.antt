@@ -15,12 +15,14 @@ returns-2 c = rw (c .before .before .before .before .before .reply2 .given .1) (
 
 returns-3 : tie.Need-returns-3
 unfolding replyText
-returns-3 c = rw (c .before .before .before .before .before .enum-told .given .1) (c .before .before .put-text .ensures)
+returns-3 c = rw (c .before .before .before .before .before .reply3 .given .1) (c .before .before .put-finding .ensures)
+
+returns-4 : tie.Need-returns-4
+unfolding replyText
+returns-4 c = rw (c .before .before .before .before .before .enum-told .given .1) (c .before .before .put-text .ensures)
 
 pub put-reply-spec : {M : Type 1} → statement M
 put-reply-spec =
     tie.close
     (tie.spec
-    (λ c. search needs) (λ c κs. search needs) (λ c. search needs) (λ c κs. search needs) (λ c. search needs)
-    (λ c. search needs) (λ c κs. search needs) (λ c. search needs) returns (λ c. search needs) returns-2
-    (λ c. search needs) returns-3)
+    (λ c. search needs) (λ c κs. search needs) (λ c. search needs) (λ c κs. search needs) (λ c. search needs) (λ c κs. search needs) (λ c. search needs) (λ c. search needs) (λ c κs. search needs) (λ c. search needs) returns (λ c. search needs) returns-2 (λ c. search needs) returns-3 (λ c. search needs) returns-4)

@@ -8,11 +8,10 @@ use Rattle.console.proofs.answer.respond.Tie as tie
 
 returns : tie.Need-returns
 unfolding answerText
-returns c = record { reply = c .before .before .before .before .before .before .before .before .before .before .before .before .before .before .reply-to .result; replied = c .before .before .before .before .before .before .before .before .before .before .before .before .before .before .reply-to .ensures; put = put-both (c .before .before .before .before .before .before .put-reply .ensures) (c .before .before .put .ensures) }
+returns c = record { reply = c .before .before .before .before .before .before .before .before .before .before .before .before .before .before .before .before .reply-to .result; replied = c .before .before .before .before .before .before .before .before .before .before .before .before .before .before .before .before .reply-to .ensures; put = put-both (c .before .before .before .before .before .before .put-reply .ensures) (c .before .before .put .ensures) }
 
 pub respond-spec : {M : Type 1} → statement M
 respond-spec =
     tie.close
     (tie.spec
-    (λ c κs. search needs) (λ c κs. search needs) (λ c κs. search needs) (λ c. search needs) (λ c. search needs)
-    (λ c. search needs) (λ c. search needs) returns)
+    (λ c κs. search needs) (λ c κs. search needs) (λ c κs. search needs) (λ c. search needs) (λ c. search needs) (λ c. search needs) (λ c. search needs) (λ c. search needs) returns)

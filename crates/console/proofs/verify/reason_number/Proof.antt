@@ -1,0 +1,48 @@
+-- `reason_number` goes by the same cases as its definition.
+-- Assumes nothing.
+use borrow.Author.Needs.{needs}
+use Rattle.analysis.specs.Judged.{reasonNumber}
+use Rattle.console.proofs.verify.reason_number.Statement.{statement}
+use Rattle.console.proofs.verify.reason_number.Tie as tie
+
+returns : tie.Need-returns
+unfolding reasonNumber
+returns c = rw (c .enum-told .given .1)
+
+returns-2 : tie.Need-returns-2
+unfolding reasonNumber
+returns-2 c = rw (c .enum-told2 .given .1)
+
+returns-3 : tie.Need-returns-3
+unfolding reasonNumber
+returns-3 c = rw (c .enum-told3 .given .1)
+
+returns-4 : tie.Need-returns-4
+unfolding reasonNumber
+returns-4 c = rw (c .enum-told4 .given .1)
+
+returns-5 : tie.Need-returns-5
+unfolding reasonNumber
+returns-5 c = rw (c .enum-told5 .given .1)
+
+returns-6 : tie.Need-returns-6
+unfolding reasonNumber
+returns-6 c = rw (c .enum-told6 .given .1)
+
+returns-7 : tie.Need-returns-7
+unfolding reasonNumber
+returns-7 c = rw (c .enum-told7 .given .1)
+
+returns-8 : tie.Need-returns-8
+unfolding reasonNumber
+returns-8 c = rw (c .enum-told8 .given .1)
+
+returns-9 : tie.Need-returns-9
+unfolding reasonNumber
+returns-9 c = rw (c .enum-told9 .given .1)
+
+pub reason-number-spec : {M : Type 1} → statement M
+reason-number-spec =
+    tie.close
+    (tie.spec
+    (λ c. search needs) (λ c. search needs) (λ c. search needs) (λ c. search needs) (λ c. search needs) (λ c. search needs) (λ c. search needs) (λ c. search needs) (λ c. search needs) returns returns-2 returns-3 returns-4 returns-5 returns-6 returns-7 returns-8 returns-9)
