@@ -30,10 +30,13 @@ true-is-not-false b p q = let z : _≡_ {A = Bool} true false = sym p ∙ q in l
 where-form-fails : (program : List ℕ) (R : ℕ) (m : List ℕ) (r : Answer) → passesForm program R ≡ false → r ≡ Judgement (judged program R)
     → Answers program R m m r
 unfolding answered
-where-form-fails program R m r fails is =
-    (rw fails is,
-    (record { holds = λ p q j. absurd (true-is-not-false (passesForm program R) p fails) },
-    record { form = λ p. refl; small = λ p. refl }))
+where-form-fails program R m r fails is = (
+  rw fails is,
+  (
+    record { holds = λ p q j. absurd (true-is-not-false (passesForm program R) p fails) },
+    record { form = λ p. refl; small = λ p. refl },
+  ),
+)
 
 pub a-bad-length : (program : List ℕ) (R : ℕ) (m : List ℕ) (r : Answer) → badProgram (length program) ≡ true
     → r ≡ Judgement (record { finding = Refused BadLength 0; work = 0 }) → Answers program R m m r
@@ -61,22 +64,28 @@ pub too-little-memory : (program : List ℕ) (R n : ℕ) (m : List ℕ) (f : Fin
     → f ≡ formed program (length program / 8) 0 → f ≡ Accepted → n ≡ length program / 8 → length m < 56 * n
     → Answers program R m m (ScratchTooSmall (56 * n))
 unfolding answered words
-too-little-memory program R n m f good short tests is size less =
-    (rw (passes program R f good short tests is, sym size, lt-ltb (length m) (56 * n) less),
-    (record { holds = λ p q j. absurd (true-is-not-false _ (rw (sym size) (lt-ltb (length m) (56 * n) less)) q) },
-    record { form = λ p. refl; small = λ p. refl }))
+too-little-memory program R n m f good short tests is size less = (
+  rw (passes program R f good short tests is, sym size, lt-ltb (length m) (56 * n) less),
+  (
+    record { holds = λ p q j. absurd (true-is-not-false _ (rw (sym size) (lt-ltb (length m) (56 * n) less)) q) },
+    record { form = λ p. refl; small = λ p. refl },
+  ),
+)
 
 pub the-values-were-followed : (program : List ℕ) (R n : ℕ) (m m′ : List ℕ) (f : Finding) (r : Judged) → badProgram (length program) ≡ false → R ≤ 1024
     → f ≡ formed program (length program / 8) 0 → f ≡ Accepted → n ≡ length program / 8 → 56 * n ≤ length m → Followed program R n r m m′
     → Answers program R m m′ (Judgement r)
 unfolding answered words judged onForm badRecord
-the-values-were-followed program R n m m′ f r good short tests is size enough h =
-    (rw (passes program R f good short tests is, sym size, le-ltb (length m) (56 * n) enough, good, le-ltb 1024 R short, size, sym tests, is) (ap Judgement (h .found)),
-    (record { holds = λ p q j. rw (sym size) (ap (λ w. w j) (h .waits)) },
+the-values-were-followed program R n m m′ f r good short tests is size enough h = (
+  rw (passes program R f good short tests is, sym size, le-ltb (length m) (56 * n) enough, good, le-ltb 1024 R short, size, sym tests, is) (ap Judgement (h .found)),
+  (
+    record { holds = λ p q j. rw (sym size) (ap (λ w. w j) (h .waits)) },
     record {
       form = λ p. absurd (true-is-not-false _ (passes program R f good short tests is) p);
       small = λ p. absurd (true-is-not-false _ p (rw (sym size) (le-ltb (length m) (56 * n) enough)));
-    }))
+    },
+  ),
+)
 
 -- ---- the length of a program of good form
 

@@ -157,7 +157,7 @@ a-state-is-copied m m′ from to k all h = record {
   others = λ i g. h .others i (⊎-elim (λ x. inl x) (λ x. inr (let q = h .few in omega arith)) g);
 }
 
--- words before `bound` are as they were, and so is a state that lies there
+-- where the words up to the end of a state are as they were, the state is
 pub a-state-is-kept : (m m′ : List ℕ) (at : ℕ) → ((i : ℕ) → i < at + 55 → getD m′ i 0 ≡ getD m i 0) → factsAt m′ at ≡ factsAt m at
 unfolding factsAt
 a-state-is-kept m m′ at h = ap (λ x. record { registers = x }) (equal-words-hold-equal-states 11 m m′ at at (λ i l. h (at + i) (omega arith)))
@@ -295,7 +295,7 @@ a-state-comes-to-an-unmarked-block n i m m′ j a before l fit ne st = record {
   waits = others-wait-as-before n m (set m′ (56 * j) 1) j a l (getD-set-same m′ (56 * j) 1 0 (let q = st .size in omega arith))
       (same ∙ st .held ∙ ap (λ o. meeting o a) (sym (nothing-waits-in-an-unmarked-block n m j ne)))
       (λ k h. getD-set-other m′ (56 * j) k 1 0 (⊎-elim (λ x e. omega arith) (λ x e. omega arith) h)
-        ∙ st .others k (⊎-elim (λ x. inl (omega arith)) (λ x. inr (omega arith)) h));
+      ∙ st .others k (⊎-elim (λ x. inl (omega arith)) (λ x. inr (omega arith)) h));
   kept = λ k h. getD-set-other m′ (56 * j) k 1 0 (λ e. omega arith) ∙ st .others k (inl (omega arith));
 }
   where
@@ -328,7 +328,7 @@ the-start-waits n m m′ m″ l fit clear st = record {
   waits = others-wait-as-before n m′ (set m″ 0 1) 0 startFacts l (getD-set-same m″ 0 1 0 (let q = st .size in let p = clear .size in omega arith))
       (same ∙ st .held ∙ ap (λ p. meeting (p 0) startFacts) (sym (clear .waits)))
       (λ k h. getD-set-other m″ 0 k 1 0 (⊎-elim (λ x e. omega arith) (λ x e. omega arith) h)
-        ∙ st .others k (⊎-elim (λ x. absurd (omega arith)) (λ x. inr (omega arith)) h))
+      ∙ st .others k (⊎-elim (λ x. absurd (omega arith)) (λ x. inr (omega arith)) h))
       ∙ ap (λ p. arrive p 0 startFacts) (clear .waits);
 }
   where

@@ -1,10 +1,10 @@
 -- The tests on form, one instruction after the other: which tests each instruction is put to, and a turn of the loop.
 -- Assumes nothing.
-use Prim.Native.Nat.{ℕ, zero, suc, _+_, _-_, _*_, _/_, _^_, _≤_, _<_}
-use mathlib.Core.Path.{_≡_, refl, sym, ap, _∙_, subst}
+use Prim.Native.Nat.{ℕ, zero, suc, _+_, _-_, _*_, _/_, _%_, _^_, _≤_, _<_}
+use mathlib.Core.Path.{_≡_, refl, sym, ap, ap₂, _∙_, subst}
 use mathlib.Core.Bool.{Bool, true, false, cond, _&&_, _||_}
 use mathlib.Core.Option.{Option, none, some}
-use mathlib.Core.List.{List}
+use mathlib.Core.List.{List, [], _∷_}
 use lib.ListN.{length}
 use lib.Dec.{eqb, leb}
 use native.Mathlib.Omega.{arith}
@@ -12,32 +12,26 @@ use borrow.Author.Tests.{le-leb, ne-eqb, leb-false}
 use Rattle.word.specs.declared.Comparison.{Comparison}
 use Rattle.word.specs.declared.Operation.{Operation}
 use Rattle.machine.specs.declared.instruction.Width.{Width}
+use Rattle.machine.specs.declared.instruction.Width.the-variants.{Long, Short}
 use Rattle.machine.specs.declared.instruction.Size.{Size}
 use Rattle.machine.specs.declared.instruction.Operand.{Operand}
+use Rattle.machine.specs.declared.instruction.Operand.the-variants.{Immediate, Register}
 use Rattle.machine.specs.declared.instruction.Instruction.{Instruction}
 use Rattle.machine.specs.declared.instruction.Instruction.the-variants.{Alu, Neg, Jump, Always, Exit, Load, Store, NoInstruction}
-use Rattle.machine.specs.Instruction.{decode, writes}
+use Rattle.word.specs.Word.{extend}
+use Rattle.machine.specs.Instruction.{Fields, fields, only, Line, _means_, lookup, withOperand, operations, arithmetic, comparisons, jump, loads, storesOfImm, storesOfSrc, load, storeOfImm, storeOfSrc, byClass, meaning, decode, writes}
 use Rattle.machine.specs.Machine.{isNoInstruction, names10}
 use Rattle.analysis.specs.declared.Reason.{Reason}
-use Rattle.analysis.specs.declared.Reason.the-variants.{WritesR10, JumpsBack, JumpsOut}
+use Rattle.analysis.specs.declared.Reason.the-variants.{NoCode, WritesR10, JumpsBack, JumpsOut}
 use Rattle.analysis.specs.declared.Finding.{Finding}
 use Rattle.analysis.specs.declared.Finding.the-variants.{Accepted, Refused}
 use Rattle.analysis.specs.Form.{instruction, offOf, goesBack, goesOut, mayBeLast, failing}
 use Rattle.analysis.specs.Judged.{orElse, formed}
 use Rattle.verifier.specs.declared.form.Tested.{Tested}
 use Rattle.verifier.specs.declared.form.Tested.the-variants.{Good, Bad}
-use Rattle.verifier.specs.Form.{told}
+use Rattle.verifier.specs.Form.{told, whenLast, whenWriting, whenJumping, coded, hasLine, withOperandTests, arithmeticTests, jumpTests, loadTests, storeOfImmTests, storeOfSrcTests, classTests, fieldTests}
 
 -- ---- which tests an instruction is put to
-
-abbrev pub whenLast : ℕ → ℕ → Option Reason
-whenLast n i = cond (eqb (i + 1) n) (some JumpsOut) none
-
-abbrev pub whenWriting : ℕ → ℕ → ℕ → Option Reason
-whenWriting n i d = cond (eqb d 10) (some WritesR10) (whenLast n i)
-
-abbrev pub whenJumping : ℕ → ℕ → ℕ → Option Reason
-whenJumping n i off = cond (leb (2 ^ 63) off) (some JumpsBack) (cond (leb n (i + 1 + off)) (some JumpsOut) none)
 
 last-or-not : (b : Bool) → cond (b && true) (some JumpsOut) none ≡ cond b (some JumpsOut) none
 last-or-not true = refl
@@ -90,6 +84,133 @@ module _ (n i : ℕ) where
       never true e = refl
       never false e = let q : i + 1 + off < n = leb-false _ _ e in rw (ne-eqb (i + 1) n (λ z. omega arith))
 
+-- ---- the tests on the fields are those on the instruction
+
+module _ (n i : ℕ) where
+  code-or-none : (b : Bool) (ins : Instruction) → coded b (failing n i ins) ≡ failing n i (only b ins)
+  unfolding coded only failing isNoInstruction
+  code-or-none true ins = refl
+  code-or-none false ins = refl
+
+  one-of-two : (b : Bool) (x y : Instruction) → cond b (failing n i x) (failing n i y) ≡ failing n i (cond b x y)
+  one-of-two true x y = refl
+  one-of-two false x y = refl
+
+  -- what every line of a table is put to
+  tests-of-a-line : {A : Type 0} (code : ℕ) (lines : List (Line A)) (found : A → Instruction) (v : Option Reason) → ((a : A) → v ≡ failing n i (found a))
+      → coded (hasLine code lines) v ≡ failing n i (lookup code lines found)
+  unfolding coded hasLine lookup failing isNoInstruction
+  tests-of-a-line code [] found v h = refl
+  tests-of-a-line code ((c means a) ∷ lines) found v h = this-line (eqb code c) (tests-of-a-line code lines found v h)
+    where
+      found-here : (x : Bool) → cond (x || true) v (some NoCode) ≡ v
+      found-here true = refl
+      found-here false = refl
+
+      found-later : (x : Bool) → cond (x || false) v (some NoCode) ≡ cond x v (some NoCode)
+      found-later true = refl
+      found-later false = refl
+
+      this-line : (b : Bool) → cond (hasLine code lines) v (some NoCode) ≡ failing n i (lookup code lines found)
+          → cond (hasLine code lines || b) v (some NoCode) ≡ failing n i (cond b (found a) (lookup code lines found))
+      this-line true later = found-here (hasLine code lines) ∙ h a
+      this-line false later = found-later (hasLine code lines) ∙ later
+
+  tests-of-either-operand : (f : Fields) (found : Operand → Instruction) (v : Option Reason) → ((s : Operand) → v ≡ failing n i (found s))
+      → withOperandTests f v ≡ failing n i (withOperand f found)
+  unfolding withOperandTests withOperand
+  tests-of-either-operand f found v h =
+      ap₂ (cond (eqb (f .opcode / 8 % 2) 0))
+      (ap (coded (eqb (f .src) 0)) (h _) ∙ code-or-none (eqb (f .src) 0) _)
+      (ap (coded (eqb (f .imm) 0)) (h _) ∙ code-or-none (eqb (f .imm) 0) _)
+      ∙ one-of-two (eqb (f .opcode / 8 % 2) 0) _ _
+
+  arithmetic-by-fields : (w : Width) (f : Fields) → arithmeticTests n i f ≡ failing n i (arithmetic w f)
+  unfolding arithmeticTests arithmetic
+  arithmetic-by-fields w f =
+      ap (coded (eqb (f .off) 0))
+      (ap₂ (cond (eqb (f .opcode / 16) 8))
+      (ap (coded (eqb (f .opcode / 8 % 2) 0 && eqb (f .src) 0 && eqb (f .imm) 0)) (tests-of-a-negation n i w (f .dst)) ∙ code-or-none _ (Neg w (f .dst)))
+      (tests-of-a-line (f .opcode / 16) operations (λ op. withOperand f (λ s. Alu w op (f .dst) s)) _
+      (λ op. tests-of-either-operand f (λ s. Alu w op (f .dst) s) _ (λ s. tests-of-arithmetic n i w op (f .dst) s)))
+      ∙ one-of-two (eqb (f .opcode / 16) 8) _ _)
+      ∙ code-or-none (eqb (f .off) 0) _
+
+  jumps-by-fields : (f : Fields) → jumpTests n i f ≡ failing n i (jump f)
+  unfolding jumpTests jump
+  jumps-by-fields f =
+      ap₂ (cond (eqb (f .opcode) 0x05))
+      (ap (coded _) (tests-of-ja n i (extend 16 (f .off))) ∙ code-or-none _ (Always (extend 16 (f .off))))
+      (ap₂ (cond (eqb (f .opcode) 0x95))
+      (ap (coded _) (tests-of-an-exit n i) ∙ code-or-none _ Exit)
+      (tests-of-a-line (f .opcode / 16) comparisons (λ c. withOperand f (λ s. Jump c (f .dst) s (extend 16 (f .off)))) _
+      (λ c. tests-of-either-operand f (λ s. Jump c (f .dst) s (extend 16 (f .off))) _ (λ s. tests-of-a-jump n i c (f .dst) s (extend 16 (f .off)))))
+      ∙ one-of-two (eqb (f .opcode) 0x95) _ _)
+      ∙ one-of-two (eqb (f .opcode) 0x05) _ _
+
+  loads-by-fields : (f : Fields) → loadTests n i f ≡ failing n i (load f)
+  unfolding loadTests load
+  loads-by-fields f =
+      tests-of-a-line (f .opcode) loads (λ z. only (eqb (f .imm) 0) (Load z (f .dst) (f .src) (extend 16 (f .off)))) _
+      (λ z. ap (coded (eqb (f .imm) 0)) (tests-of-a-load n i z (f .dst) (f .src) (extend 16 (f .off))) ∙ code-or-none (eqb (f .imm) 0) _)
+
+  stores-of-imm-by-fields : (f : Fields) → storeOfImmTests n i f ≡ failing n i (storeOfImm f)
+  unfolding storeOfImmTests storeOfImm
+  stores-of-imm-by-fields f =
+      tests-of-a-line (f .opcode) storesOfImm
+      (λ z. only (eqb (f .src) 0) (Store z (f .dst) (extend 16 (f .off)) (Immediate (extend 32 (f .imm))))) _
+      (λ z. ap (coded (eqb (f .src) 0)) (tests-of-a-store n i z (f .dst) (extend 16 (f .off)) _) ∙ code-or-none (eqb (f .src) 0) _)
+
+  stores-of-src-by-fields : (f : Fields) → storeOfSrcTests n i f ≡ failing n i (storeOfSrc f)
+  unfolding storeOfSrcTests storeOfSrc
+  stores-of-src-by-fields f =
+      tests-of-a-line (f .opcode) storesOfSrc (λ z. only (eqb (f .imm) 0) (Store z (f .dst) (extend 16 (f .off)) (Register (f .src)))) _
+      (λ z. ap (coded (eqb (f .imm) 0)) (tests-of-a-store n i z (f .dst) (extend 16 (f .off)) _) ∙ code-or-none (eqb (f .imm) 0) _)
+
+  classes-by-fields : (f : Fields) → classTests n i f ≡ failing n i (byClass f)
+  unfolding classTests byClass failing isNoInstruction
+  classes-by-fields f = either (eqb (f .opcode % 8) 7) (eqb (f .opcode % 8) 4)
+    where
+      others : Instruction
+      others =
+          cond (eqb (f .opcode % 8) 5) (jump f)
+          (cond (eqb (f .opcode % 8) 1) (load f)
+          (cond (eqb (f .opcode % 8) 2) (storeOfImm f)
+          (cond (eqb (f .opcode % 8) 3) (storeOfSrc f)
+          NoInstruction)))
+
+      other-classes : cond (eqb (f .opcode % 8) 5) (jumpTests n i f)
+          (cond (eqb (f .opcode % 8) 1) (loadTests n i f)
+          (cond (eqb (f .opcode % 8) 2) (storeOfImmTests n i f)
+          (cond (eqb (f .opcode % 8) 3) (storeOfSrcTests n i f)
+          (some NoCode))))
+          ≡ failing n i others
+      other-classes =
+          ap₂ (cond (eqb (f .opcode % 8) 5)) (jumps-by-fields f)
+          (ap₂ (cond (eqb (f .opcode % 8) 1)) (loads-by-fields f)
+          (ap₂ (cond (eqb (f .opcode % 8) 2)) (stores-of-imm-by-fields f)
+          (ap (λ x. cond (eqb (f .opcode % 8) 3) x (some NoCode)) (stores-of-src-by-fields f) ∙ one-of-two (eqb (f .opcode % 8) 3) (storeOfSrc f) NoInstruction)
+          ∙ one-of-two (eqb (f .opcode % 8) 2) _ _)
+          ∙ one-of-two (eqb (f .opcode % 8) 1) _ _)
+          ∙ one-of-two (eqb (f .opcode % 8) 5) _ _
+
+      either : (a b : Bool)
+          → cond (a || b) (arithmeticTests n i f)
+          (cond (eqb (f .opcode % 8) 5) (jumpTests n i f)
+          (cond (eqb (f .opcode % 8) 1) (loadTests n i f)
+          (cond (eqb (f .opcode % 8) 2) (storeOfImmTests n i f)
+          (cond (eqb (f .opcode % 8) 3) (storeOfSrcTests n i f)
+          (some NoCode)))))
+          ≡ failing n i (cond a (arithmetic Long f) (cond b (arithmetic Short f) others))
+      either true b = arithmetic-by-fields Long f
+      either false true = arithmetic-by-fields Short f
+      either false false = other-classes
+
+  tests-by-fields : (f : Fields) → fieldTests n i f ≡ failing n i (meaning f)
+  unfolding fieldTests meaning
+  tests-by-fields f =
+      ap (coded (leb (f .dst) 10 && leb (f .src) 10)) (classes-by-fields f) ∙ code-or-none (leb (f .dst) 10 && leb (f .src) 10) (byClass f)
+
 -- ---- the instruction at an index
 
 pub an-instruction-is-decoded : (program : List ℕ) (n i : ℕ) → n ≡ length program / 8 → i < n
@@ -97,11 +218,11 @@ pub an-instruction-is-decoded : (program : List ℕ) (n i : ℕ) → n ≡ lengt
 unfolding instruction
 an-instruction-is-decoded program n i size l = rw (le-leb (i * 8 + 8) (length program) (omega arith))
 
-pub the-tests-at-an-index : (program : List ℕ) (n i : ℕ) (ins : Instruction) (x : Option Reason) → n ≡ length program / 8 → i < n
-    → ins ≡ cond (leb (i * 8 + 8) (length program)) (decode program (i * 8)) NoInstruction → x ≡ failing n i ins
-    → x ≡ failing (length program / 8) i (instruction program i)
-the-tests-at-an-index program n i ins x size l is e =
-    e ∙ ap (λ y. failing n i y) (is ∙ an-instruction-is-decoded program n i size l) ∙ ap (λ k. failing k i (instruction program i)) size
+pub the-tests-at-an-index : (program : List ℕ) (n i : ℕ) (f : Fields) (x : Option Reason) → n ≡ length program / 8 → fields program (i * 8) ≡ f
+    → x ≡ fieldTests n i f → x ≡ failing (length program / 8) i (instruction program i)
+unfolding instruction decode
+the-tests-at-an-index program n i f x size is e =
+    e ∙ tests-by-fields n i f ∙ ap (λ g. failing n i (meaning g)) (sym is) ∙ ap (λ k. failing k i (meaning (fields program (i * 8)))) size
 
 -- ---- a turn of the loop
 

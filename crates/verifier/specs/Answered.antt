@@ -9,7 +9,7 @@ use lib.Dec.{ltb}
 use Rattle.machine.specs.Machine.{badProgram, badRecord}
 use Rattle.analysis.specs.declared.Finding.{Finding}
 use Rattle.analysis.specs.declared.Finding.the-variants.{Accepted, Refused}
-use Rattle.analysis.specs.Judged.{Waiting, formed, followed, judged}
+use Rattle.analysis.specs.Judged.{formed, followed, judged}
 use Rattle.analysis.specs.Safe.{Safe}
 use Rattle.verifier.specs.declared.Answer.{Answer}
 use Rattle.verifier.specs.declared.Answer.the-variants.{Judgement, ScratchTooSmall}

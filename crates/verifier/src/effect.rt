@@ -7,13 +7,6 @@ ghost use Rattle.machine.specs.Machine as machine;
 ghost use Rattle.analysis.specs.Effects as defined;
 ghost use Rattle.analysis.specs.Values.{valueOf, operandOf};
 ghost use Rattle.verifier.specs.Scratch.{factsAt, shortened};
-use calculator::operation::alu32;
-use calculator::operation::alu64;
-use calculator::sharpen::exactly;
-use calculator::sharpen::fits;
-use calculator::sharpen::load;
-use calculator::compare::not_taken;
-use calculator::compare::taken;
 use crate::scratch::register;
 use crate::value::Permit;
 use crate::value::reading;
@@ -22,6 +15,13 @@ use analysis::Effect;
 use analysis::Reason;
 use analysis::Region;
 use analysis::Value;
+use calculator::compare::not_taken;
+use calculator::compare::taken;
+use calculator::operation::alu32;
+use calculator::operation::alu64;
+use calculator::sharpen::exactly;
+use calculator::sharpen::fits;
+use calculator::sharpen::load;
 use machine::instruction::Instruction;
 use machine::instruction::Operand;
 use machine::instruction::Size;
@@ -287,7 +287,11 @@ fn load_from(rlen: u64, size: Size, d: u64, off: u64, x: Value) -> Effect
 {
     match x {
         Value::Address(p, a) => {
-            if fits(alu64(Operation::Add, a, exactly(off)), bytes(size), limit(rlen, p)) {
+            if fits(
+                alu64(Operation::Add, a, exactly(off)),
+                bytes(size),
+                limit(rlen, p),
+            ) {
                 return put(d, Value::Plain(load(last(size))));
             }
             Effect::Refuse(Reason::Outside)

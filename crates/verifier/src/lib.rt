@@ -7,6 +7,7 @@ mod scratch;
 mod send;
 mod value;
 pub mod verify;
+
 use analysis::Judged;
 use analysis::Reason;
 use analysis::Value;

@@ -131,7 +131,16 @@ fn send(m: &mut [u64], n: usize, i: usize, j: u64, change: Change, work: u64) ->
 }
 
 // A way out of a jump.
-fn send_along(m: &mut [u64], n: usize, i: usize, j: u64, d: u64, s: Operand, way: Refined, work: u64) -> Step
+fn send_along(
+    m: &mut [u64],
+    n: usize,
+    i: usize,
+    j: u64,
+    d: u64,
+    s: Operand,
+    way: Refined,
+    work: u64,
+) -> Step
     requires { ⌜ (i < j) × (56 * n ≤ length (now m)) × (work < 1048576) ⌝ }
     ensures { λ r. ⌜ Sent (defined.send n j (defined.along (factsAt (now (m .entry)) (56 * i + 1)) d s way) (waitingIn n (now (m .entry))) work) n i r (now (m .entry)) (now (m .exit)) ⌝ }
 {
