@@ -1,5 +1,6 @@
 pub mod Answers
 pub mod Blocks
+pub mod Memory
 pub mod Permits
 pub mod Promise
 pub mod Steps
