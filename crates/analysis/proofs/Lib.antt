@@ -6,9 +6,11 @@ pub mod LayoutFree
 pub mod Meaning
 pub mod Programs
 pub mod Refusing
+pub mod Running
 pub mod Simulation
 pub mod Sound
 pub mod Stable
+pub mod StackSize
 pub mod Tests
 pub mod Theorem
 pub mod Unsafe

@@ -1,22 +1,21 @@
--- The machine does under every layout what the layout-free machine does, until that is stuck; so a layout-free run to a verdict is the run
--- of the interpreter's definition, with every budget, and what is left of it does not depend on the layout. Assumes nothing.
-use mathlib.Core.Path.{_≡_, refl, sym, ap, ap₂, _∙_, subst}
+-- The machine does under every layout what the layout-free machine does, until that is stuck.
+-- Assumes nothing.
+use mathlib.Core.Path.{_≡_, refl, sym, ap, ap₂, _∙_}
 use mathlib.Core.Bool.{Bool, true, false, cond, _&&_, _||_}
 use mathlib.Core.Logic.{_⊎_, inl, inr, ⊎-elim}
-use mathlib.Core.List.{List, [], _∷_, _++_, map}
-use Prim.Native.Nat.{ℕ, zero, suc, _+_, _-_, _/_, _%_, _^_, _≤_, _<_}
+use mathlib.Core.List.{List, [], _∷_, map}
+use Prim.Native.Nat.{ℕ, zero, suc, _+_, _-_, _%_, _^_, _≤_, _<_}
 use native.Mathlib.Nat.{mod-eq-of-lt, mod-mod, mod-add-mod, add-mod-mod, add-assoc, add-comm}
 use native.Mathlib.Decide.{decLt}
 use native.Mathlib.Omega.{arith}
-use lib.ListN.{length, getD, set, replicate, length-replicate, List·getD-map}
-use lib.Dec.{eqb, leb, ltb}
-use borrow.Author.Tests.{leb-true, leb-false, le-leb, lt-leb}
+use lib.ListN.{length, set, List·getD-map}
+use lib.Dec.{eqb, leb}
+use borrow.Author.Tests.{leb-true, le-leb, lt-leb}
 use Rattle.word.specs.Word.{cut, alu, compare, readBytes, writeBytes}
 use Rattle.word.specs.declared.Operation.{Operation}
 use Rattle.word.specs.declared.Operation.the-variants.{Add, Sub, Mul, Div, Or, And, Lsh, Rsh, Mod, Xor, Mov, Arsh}
 use Rattle.word.specs.declared.Operation.the-variants as operation
 use Rattle.word.specs.declared.Comparison.{Comparison}
-use Rattle.word.proofs.Bytes.{write-length}
 use Rattle.machine.specs.declared.instruction.Width.{Width}
 use Rattle.machine.specs.declared.instruction.Width.the-variants.{Long, Short}
 use Rattle.machine.specs.declared.instruction.Size.{Size}
@@ -25,18 +24,15 @@ use Rattle.machine.specs.declared.instruction.Operand.{Operand}
 use Rattle.machine.specs.declared.instruction.Operand.the-variants.{Immediate, Register}
 use Rattle.machine.specs.declared.instruction.Instruction.{Instruction}
 use Rattle.machine.specs.declared.instruction.Instruction.the-variants.{Alu, Neg, Jump, Always, Exit, Load, Store, NoInstruction}
-use Rattle.machine.specs.declared.memory.Loaded.{Loaded}
-use Rattle.machine.specs.declared.memory.Loaded.the-variants.{Value, Nowhere}
-use Rattle.machine.specs.declared.outcome.Outcome.{Outcome}
-use Rattle.machine.specs.declared.outcome.Outcome.the-variants.{Verdict, Budget}
-use Rattle.machine.specs.Instruction.{decode, readsOperand, readsDst, reads, writes}
-use Rattle.machine.specs.Machine.{World, Content, Unset, Holds, State, After, content, held, value, operandValue, put, jumped, bits, bytes, address, within, afterLoad, afterStore, effect, isNoInstruction, names10, isUnset, anyUnset, obey, step, Done, next, runs, start}
+use Rattle.machine.specs.declared.memory.Loaded.the-variants.{Value}
+use Rattle.machine.specs.Instruction.{readsOperand, readsDst, reads, writes}
+use Rattle.machine.specs.Machine.{World, Content, Unset, Holds, State, After, content, held, value, operandValue, put, jumped, bits, bytes, address, within, afterLoad, afterStore, effect, isNoInstruction, names10, isUnset, anyUnset, obey, start}
 use Rattle.machine.specs.Machine as machine
 use Rattle.analysis.specs.declared.Region.{Region}
 use Rattle.analysis.specs.declared.Region.the-variants.{Record, Stack}
-use Rattle.analysis.specs.Effects.{Role, copies, converts, adds, subtracts, calculates, role, limit}
+use Rattle.analysis.specs.Effects.{role, limit}
 use Rattle.analysis.specs.Form.{instruction}
-use Rattle.analysis.proofs.LayoutFree.{Cell, unset, number, offset, Config, Course, stuck, ends, goes, cellOf, operandCell, putCell, copied, calculated, summed, subtracted, worked, region, loadedAt, loaded, storedAt, stored, jumpedTo, forked, exited, free, after, Comes, at-once, later, startConfig}
+use Rattle.analysis.proofs.LayoutFree.{Cell, unset, number, offset, Config, Course, stuck, ends, goes, cellOf, operandCell, putCell, copied, calculated, summed, subtracted, worked, region, loadedAt, loaded, storedAt, stored, jumpedTo, forked, exited, free}
 
 pub map-set : {A B : Type 0} (f : A → B) (l : List A) (i : ℕ) (a : A) → map f (set l i a) ≡ set (map f l) i (f a)
 map-set f [] i a = refl
@@ -83,7 +79,7 @@ module _ (w : World) where
   concrete c = record { registers = map conc (c .registers); stack = c .stack; index = c .index }
 
   -- the machine did the same, unless the layout-free one was stuck
-  abbrev Same : Course → After → Type 0
+  abbrev pub Same : Course → After → Type 0
   Same stuck o = Unit {0}
   Same (ends v) o = o ≡ machine.ends v
   Same (goes c) o = o ≡ machine.goes (concrete c)
@@ -373,145 +369,3 @@ module _ (w : World) where
     free-same c (Load z d s off) l = loaded-same c z d s off l _ refl
     free-same c (Store z d off s) l = stored-same c z d off s l _ _ refl refl
     free-same c NoInstruction l = tt
-
--- ---- the stack keeps its size
-
-abbrev Keeps : Config → Course → Type 0
-Keeps c stuck = Unit {0}
-Keeps c (ends v) = Unit {0}
-Keeps c (goes c′) = length (c′ .stack) ≡ length (c .stack)
-
-module _ (c : Config) where
-  guard-keeps : (b : Bool) (c′ : Config) → length (c′ .stack) ≡ length (c .stack) → Keeps c (cond b stuck (goes c′))
-  guard-keeps true c′ e = tt
-  guard-keeps false c′ e = e
-
-  put-keeps : (d : ℕ) (x : Cell) → Keeps c (putCell c d x)
-  unfolding putCell
-  put-keeps d x = guard-keeps (eqb d 10) _ refl
-
-  calculated-keeps : (w : ℕ) (op : Operation) (d : ℕ) (x y : Cell) → Keeps c (calculated w op c d x y)
-  unfolding calculated
-  calculated-keeps w op d unset y = tt
-  calculated-keeps w op d (number a) unset = tt
-  calculated-keeps w op d (number a) (number b) = put-keeps d _
-  calculated-keeps w op d (number a) (offset q u) = tt
-  calculated-keeps w op d (offset p o) y = tt
-
-  worked-keeps : (r : Role) (w : ℕ) (op : Operation) (d : ℕ) (x y : Cell) → Keeps c (worked r w op c d x y)
-  unfolding worked copied summed subtracted
-  worked-keeps copies w op d x unset = tt
-  worked-keeps copies w op d x (number b) = put-keeps d _
-  worked-keeps copies w op d x (offset q u) = put-keeps d _
-  worked-keeps converts w op d x y = calculated-keeps w op d y y
-  worked-keeps adds w op d unset y = tt
-  worked-keeps adds w op d (number a) unset = tt
-  worked-keeps adds w op d (number a) (number b) = put-keeps d _
-  worked-keeps adds w op d (number a) (offset q u) = put-keeps d _
-  worked-keeps adds w op d (offset p o) unset = tt
-  worked-keeps adds w op d (offset p o) (number b) = put-keeps d _
-  worked-keeps adds w op d (offset p o) (offset q u) = tt
-  worked-keeps subtracts w op d unset y = tt
-  worked-keeps subtracts w op d (number a) unset = tt
-  worked-keeps subtracts w op d (number a) (number b) = put-keeps d _
-  worked-keeps subtracts w op d (number a) (offset q u) = tt
-  worked-keeps subtracts w op d (offset p o) unset = tt
-  worked-keeps subtracts w op d (offset p o) (number b) = put-keeps d _
-  worked-keeps subtracts w op d (offset p o) (offset q u) = tt
-  worked-keeps calculates w op d x y = calculated-keeps w op d x y
-
-  loaded-keeps : (rec : List ℕ) (size d off : ℕ) (x : Cell) → Keeps c (loaded rec size c d off x)
-  unfolding loaded loadedAt
-  loaded-keeps rec size d off unset = tt
-  loaded-keeps rec size d off (number a) = tt
-  loaded-keeps rec size d off (offset p o) = go (leb (alu 64 Add o off + size) (limit (length rec) p))
-    where
-      go : (b : Bool) → Keeps c (cond b (putCell c d (number (readBytes size (region rec c p) (alu 64 Add o off)))) stuck)
-      go true = put-keeps d _
-      go false = tt
-
-  stored-keeps : (size off : ℕ) (x y : Cell) → Keeps c (stored size c off x y)
-  unfolding stored storedAt
-  stored-keeps size off unset y = tt
-  stored-keeps size off (number a) y = tt
-  stored-keeps size off (offset Record o) y = tt
-  stored-keeps size off (offset Stack o) unset = tt
-  stored-keeps size off (offset Stack o) (number b) = go (leb (alu 64 Add o off + size) 512)
-    where
-      go : (t : Bool) → Keeps c (cond t (goes (record { registers = c .registers; stack = writeBytes size (c .stack) (alu 64 Add o off) b; index = c .index + 1 })) stuck)
-      go true = write-length size (c .stack) (alu 64 Add o off) b
-      go false = tt
-  stored-keeps size off (offset Stack o) (offset q u) = tt
-
-  forked-keeps : (k : Comparison) (off : ℕ) (x y : Cell) → Keeps c (forked k c off x y)
-  unfolding forked jumpedTo
-  forked-keeps k off unset y = tt
-  forked-keeps k off (number a) unset = tt
-  forked-keeps k off (number a) (number b) = refl
-  forked-keeps k off (number a) (offset q u) = tt
-  forked-keeps k off (offset p o) y = tt
-
-  exited-keeps : (x : Cell) → Keeps c (exited x)
-  unfolding exited
-  exited-keeps unset = tt
-  exited-keeps (number v) = tt
-  exited-keeps (offset p o) = tt
-
-  pub free-keeps : (rec : List ℕ) (i : Instruction) → Keeps c (free rec c i)
-  unfolding free jumpedTo
-  free-keeps rec (Alu w op d s) = worked-keeps (role w op) (bits w) op d _ _
-  free-keeps rec (Neg w d) = calculated-keeps (bits w) operation.Neg d _ _
-  free-keeps rec (Jump k d s off) = forked-keeps k off _ _
-  free-keeps rec (Always off) = refl
-  free-keeps rec Exit = exited-keeps (cellOf c 0)
-  free-keeps rec (Load z d s off) = loaded-keeps rec (bytes z) d off _
-  free-keeps rec (Store z d off s) = stored-keeps (bytes z) off _ _
-  free-keeps rec NoInstruction = tt
-
--- ---- runs
-
-module _ (program : List ℕ) (w : World) (ok : Apart w) where
-  stepped : (c : Config) → c .index < length program / 8 → step program w (concrete w c) ≡ obey w (concrete w c) (instruction program (c .index))
-  unfolding step instruction
-  stepped c l = rw (lt-leb (length program / 8) (c .index) l) refl
-
-  -- what a run of k steps to the verdict v answers with a budget of b, after n steps
-  abbrev pub answered : ℕ → ℕ → ℕ → ℕ → Outcome
-  answered v k n b = cond (leb k b) (Verdict v (n + k)) (Budget (n + b))
-
-  spent : (v k n : ℕ) → answered v (suc k) n 0 ≡ Budget n
-  spent v k n = rw (lt-leb (suc k) 0 (omega arith)) (ap Budget (omega arith))
-
-  ended : (v n b : ℕ) → answered v 1 n (suc b) ≡ Verdict v (n + 1)
-  ended v n b = rw (le-leb 1 (suc b) (omega arith)) refl
-
-  one-later : (v k n b : ℕ) → answered v k (n + 1) b ≡ answered v (suc k) n (suc b)
-  one-later v k n b = go (leb k b) refl
-    where
-      go : (t : Bool) → leb k b ≡ t → cond t (Verdict v (n + 1 + k)) (Budget (n + 1 + b)) ≡ answered v (suc k) n (suc b)
-      go true e = rw (le-leb (suc k) (suc b) (omega (arith, leb-true k b e))) (ap (Verdict v) (omega arith))
-      go false e = rw (lt-leb (suc k) (suc b) (omega (arith, leb-false k b e))) (ap Budget (omega arith))
-
-  -- a layout-free run is the machine's run under this layout, whatever the budget
-  pub comes-run : {c : Config} {v k : ℕ} {left : ℕ → List ℕ} → length (c .stack) ≡ 512 → Comes program (w .rec) c v k left → (b n : ℕ)
-      → runs program w b n (concrete w c) ≡ record { outcome = answered v k n b; stack = left b }
-  unfolding runs next after
-  comes-run l (at-once {c = c} {v = v} h e) zero n = λ i. record { outcome = sym (spent v 0 n) i; stack = c .stack }
-  comes-run l (at-once {c = c} {v = v} h e) (suc b) n =
-      ap (next (runs program w b) n (concrete w c)) (stepped c h ∙ subst (λ o. Same w o (obey w (concrete w c) (instruction program (c .index)))) e (free-same w ok c (instruction program (c .index)) l))
-      ∙ (λ i. record { outcome = sym (ended v n b) i; stack = c .stack })
-  comes-run l (later {c = c} {v = v} {k = k} {left = left} c′ h e r) zero n = λ i. record { outcome = sym (spent v k n) i; stack = c .stack }
-  comes-run l (later {c = c} {v = v} {k = k} {left = left} c′ h e r) (suc b) n =
-      ap (next (runs program w b) n (concrete w c)) (stepped c h ∙ subst (λ o. Same w o (obey w (concrete w c) (instruction program (c .index)))) e (free-same w ok c (instruction program (c .index)) l))
-      ∙ comes-run (subst (Keeps c) e (free-keeps c (w .rec) (instruction program (c .index))) ∙ l) r b (n + 1)
-      ∙ (λ i. record { outcome = one-later v k n b i; stack = left b })
-
-  pub start-same : concrete w startConfig ≡ start w
-  unfolding startConfig start
-  start-same = λ i. record { registers = Unset ∷ Holds (low i) ∷ Unset ∷ Unset ∷ Unset ∷ Unset ∷ Unset ∷ Unset ∷ Unset ∷ Unset ∷ Holds (high i) ∷ []; stack = replicate 512 0; index = 0 }
-    where
-      low : (w .P + 0) % 2 ^ 64 ≡ w .P
-      low = mod-eq-of-lt {n = w .P + 0} {m = 2 ^ 64} (omega (arith, ok .record-high)) ∙ omega arith
-
-      high : (w .S + 512) % 2 ^ 64 ≡ w .S + 512
-      high = mod-eq-of-lt {n = w .S + 512} {m = 2 ^ 64} (omega (arith, ok .stack-high))

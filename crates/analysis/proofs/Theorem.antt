@@ -24,7 +24,8 @@ use Rattle.analysis.specs.Safe.{Laid, Bytes, Answer, Safe}
 use Rattle.analysis.proofs.LayoutFree.{Config, startConfig, Comes}
 use Rattle.number.proofs.Laws.{exact-in}
 use Rattle.analysis.proofs.Meaning.{Describes, Awaits}
-use Rattle.analysis.proofs.Simulation.{Apart, concrete, comes-run, start-same}
+use Rattle.analysis.proofs.Simulation.{Apart}
+use Rattle.analysis.proofs.Running.{comes-run, start-same}
 use Rattle.analysis.proofs.Tests.{or-false, or-right}
 use Rattle.analysis.proofs.Stable.{Ends, stable-ends}
 use Rattle.analysis.proofs.Annotated.{Unless, send-sends, accepted-onward, refused-not-accepted, accepted-settled}
