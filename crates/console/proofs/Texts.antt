@@ -11,7 +11,8 @@ use Rattle.text.proofs.Decimals.{decimal-short}
 use Rattle.text.proofs.Hexadecimals.{hexadecimal-short}
 use Rattle.console.specs.declared.answer.Reply.{Reply}
 use Rattle.console.specs.declared.answer.Reply.the-variants.{Ran, Pair, Found, Bad}
-use Rattle.console.specs.Answer.{numberOf, outcomeText, findingText, replyText, answerText}
+use Rattle.probewarden.specs.Encoding.{faultNumber}
+use Rattle.console.specs.Answer.{outcomeText, findingText, replyText, answerText}
 
 pair-short : (w : List ℕ) (a b : ℕ) → length w ≤ 8 → length (w ++ decimal a ++ chars " " ++ decimal b) ≤ 49
 pair-short w a b h = simp length-append (omega (arith, decimal-short a, decimal-short b))
@@ -19,7 +20,7 @@ pair-short w a b h = simp length-append (omega (arith, decimal-short a, decimal-
 reply-short : (r : Reply) → length (replyText r) ≤ 49
 unfolding replyText outcomeText findingText
 reply-short (Ran (Verdict value steps)) = pair-short (chars "verdict ") value steps (omega arith)
-reply-short (Ran (Fault cause at steps)) = pair-short (chars "fault ") (numberOf cause) steps (omega arith)
+reply-short (Ran (Fault cause at steps)) = pair-short (chars "fault ") (faultNumber cause) steps (omega arith)
 reply-short (Ran (Budget steps)) = simp length-append (omega (arith, decimal-short steps))
 reply-short (Ran Refused) = omega arith
 reply-short (Pair p) = simp length-append (omega (arith, hexadecimal-short (p .value), hexadecimal-short (p .mask)))

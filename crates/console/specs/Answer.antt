@@ -6,8 +6,6 @@ use mathlib.Core.Path.{_≡_}
 use Prim.Native.Nat.{ℕ}
 use lib.ListN.{length}
 use lib.Dec.{leb, eqb}
-use Rattle.machine.specs.declared.outcome.Cause.{Cause}
-use Rattle.machine.specs.declared.outcome.Cause.the-variants.{BadCode, OffEnd, Unset, WriteR10, BadAccess}
 use Rattle.machine.specs.declared.outcome.Outcome.{Outcome}
 use Rattle.machine.specs.declared.outcome.Outcome.the-variants.{Verdict, Fault, Budget, Refused}
 use Rattle.machine.specs.Machine.{interpreted}
@@ -16,6 +14,7 @@ use Rattle.analysis.specs.Judged.{pair}
 use Rattle.verifier.specs.declared.Answer.{Answer}
 use Rattle.verifier.specs.declared.Answer.the-variants.{Judgement, ScratchTooSmall}
 use Rattle.verifier.specs.Answered.{answered}
+use Rattle.probewarden.specs.Encoding.{faultNumber}
 use Rattle.text.specs.Scan.{equal}
 use Rattle.text.specs.Number.{number}
 use Rattle.text.specs.Hex.{spelled, bytesOf}
@@ -36,13 +35,6 @@ use Rattle.console.specs.declared.answer.Reply.{Reply}
 use Rattle.console.specs.declared.answer.Reply.the-variants.{Ran, Pair, Found, Bad}
 use Rattle.console.specs.Request.{word, after, blank, numbersOf, sizesOf}
 use Rattle.console.specs.Bits.{askedOf, places, Wanted}
-
-unfoldable pub numberOf : Cause → ℕ
-numberOf BadCode = 1
-numberOf OffEnd = 2
-numberOf Unset = 3
-numberOf WriteR10 = 4
-numberOf BadAccess = 5
 
 -- the reply to a run by what was read of it: bad where some of it is not, refused where R is not the record's length,
 -- and what the machine comes to elsewhere
@@ -101,7 +93,7 @@ pub record Replied (line : List ℕ) (n k : ℕ) (stack : List ℕ) (size : ℕ)
 
 unfoldable pub outcomeText : Outcome → List ℕ
 outcomeText (Verdict value steps) = chars "verdict " ++ decimal value ++ chars " " ++ decimal steps
-outcomeText (Fault cause at steps) = chars "fault " ++ decimal (numberOf cause) ++ chars " " ++ decimal steps
+outcomeText (Fault cause at steps) = chars "fault " ++ decimal (faultNumber cause) ++ chars " " ++ decimal steps
 outcomeText (Budget steps) = chars "budget " ++ decimal steps
 outcomeText Refused = chars "refused"
 

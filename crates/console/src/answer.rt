@@ -6,7 +6,7 @@ ghost use Prim.Native.Nat.{_≤_};
 ghost use lib.ListN.{length, take, drop};
 ghost use Rattle.machine.specs.Machine.{interpreted};
 ghost use Rattle.text.specs.Buffer.{Put, chars, decimal, hexadecimal};
-ghost use Rattle.console.specs.Answer.{Told, Replied, Responded, runReply, numberOf, outcomeText, findingText, replyText};
+ghost use Rattle.console.specs.Answer.{Told, Replied, Responded, runReply, outcomeText, findingText, replyText};
 ghost use Rattle.console.specs.Bits.{askedOf};
 use crate::bits::Asked;
 use crate::bits::read_asked;
@@ -18,13 +18,13 @@ use crate::request::next_word;
 use crate::request::past_four;
 use crate::request::read_bytes;
 use crate::request::read_numbers;
-use crate::verify::reason_number;
 use crate::verify::verify;
 use analysis::Finding;
 use interpreter::interpret;
 use known_bits::Bits;
-use machine::outcome::Cause;
 use machine::outcome::Outcome;
+use probewarden::number::fault_number;
+use probewarden::number::reason_number;
 use text::buffer::put;
 use text::buffer::put_decimal;
 use text::buffer::put_hexadecimal;
@@ -116,18 +116,6 @@ fn reply_to(
     Reply::Bad
 }
 
-fn number_of(cause: Cause) -> u64
-    ensures { λ r. ⌜ r ≡ numberOf cause ⌝ }
-{
-    match cause {
-        Cause::BadCode => 1,
-        Cause::OffEnd => 2,
-        Cause::Unset => 3,
-        Cause::WriteR10 => 4,
-        Cause::BadAccess => 5,
-    }
-}
-
 // A word and two numbers.
 fn put_pair(out: &mut [u8], at: usize, word: &[u8], a: u64, b: u64) -> usize
     ensures { λ r. ⌜ Put (now (out .entry)) at (now (word .entry) ++ decimal a ++ chars " " ++ decimal b) (now (out .exit)) r ⌝ }
@@ -147,7 +135,7 @@ fn put_outcome(out: &mut [u8], at: usize, outcome: Outcome) -> usize
             cause,
             at: _,
             steps,
-        } => put_pair(out, at, b"fault ", number_of(cause), steps),
+        } => put_pair(out, at, b"fault ", fault_number(cause), steps),
         Outcome::Budget { steps } => {
             let i = put_text(out, at, b"budget ");
             put_decimal(out, i, steps)

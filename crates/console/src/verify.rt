@@ -3,35 +3,16 @@
 ghost use mathlib.Core.Path.{_≡_};
 ghost use Prim.Native.Nat.{_≤_};
 ghost use lib.ListN.{length, take, drop};
-ghost use Rattle.analysis.specs.Judged.{reasonNumber};
 ghost use Rattle.verifier.specs.Answered.{answered};
 ghost use Rattle.console.specs.Answer.{foundBy, verifyReply};
 use crate::answer::Reply;
 use crate::request::bytes_at;
 use crate::request::decimal_at;
 use crate::request::next_word;
-use analysis::Reason;
 use text::hex::Bytes;
 use text::number::Number;
 use text::scan::skip;
 use verifier::Answer;
-
-// The place in the order of docs/VERIFIER.md.
-pub fn reason_number(reason: Reason) -> u64
-    ensures { λ r. ⌜ r ≡ reasonNumber reason ⌝ }
-{
-    match reason {
-        Reason::BadLength => 1,
-        Reason::LongRecord => 2,
-        Reason::NoCode => 3,
-        Reason::WritesR10 => 4,
-        Reason::JumpsBack => 5,
-        Reason::JumpsOut => 6,
-        Reason::ReadsUnset => 7,
-        Reason::Outside => 8,
-        Reason::LeaksAddress => 9,
-    }
-}
 
 fn found_by(answer: Answer) -> Reply
     ensures { λ r. ⌜ r ≡ foundBy answer ⌝ }

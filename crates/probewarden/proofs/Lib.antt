@@ -1,1 +1,3 @@
 pub mod Ending
+pub mod Injective
+pub mod Saying

@@ -1,1 +1,4 @@
 pub mod EndToEnd
+pub mod Encoding
+pub mod Exported
+pub mod Names

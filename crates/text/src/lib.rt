@@ -4,5 +4,6 @@ pub mod buffer;
 pub mod digit;
 pub mod hex;
 pub mod number;
+pub mod page;
 pub mod pair;
 pub mod scan;

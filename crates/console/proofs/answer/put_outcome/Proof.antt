@@ -12,7 +12,7 @@ returns c = rw (c .before .before .before .before .before .before .outcome .give
 
 returns-2 : tie.Need-returns-2
 unfolding outcomeText
-returns-2 c = rw (c .before .before .before .before .before .before .before .outcome2 .given .1, ← c .before .before .before .number-of .ensures) (c .before .before .put-pair2 .ensures)
+returns-2 c = rw (c .before .before .before .before .before .before .before .outcome2 .given .1, ← c .before .before .before .fault-number .ensures) (c .before .before .put-pair2 .ensures)
 
 returns-3 : tie.Need-returns-3
 unfolding outcomeText

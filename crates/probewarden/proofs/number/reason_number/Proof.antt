@@ -1,9 +1,9 @@
 -- `reason_number` goes by the same cases as its definition.
 -- Assumes nothing.
-use borrow.Author.Needs.{needs}
 use Rattle.analysis.specs.Judged.{reasonNumber}
-use Rattle.console.proofs.verify.reason_number.Statement.{statement}
-use Rattle.console.proofs.verify.reason_number.Tie as tie
+use borrow.Author.Needs.{needs}
+use Rattle.probewarden.proofs.number.reason_number.Statement.{statement}
+use Rattle.probewarden.proofs.number.reason_number.Tie as tie
 
 returns : tie.Need-returns
 unfolding reasonNumber
@@ -45,4 +45,21 @@ pub reason-number-spec : {M : Type 1} → statement M
 reason-number-spec =
     tie.close
     (tie.spec
-    (λ c. search needs) (λ c. search needs) (λ c. search needs) (λ c. search needs) (λ c. search needs) (λ c. search needs) (λ c. search needs) (λ c. search needs) (λ c. search needs) returns returns-2 returns-3 returns-4 returns-5 returns-6 returns-7 returns-8 returns-9)
+    (λ c. search needs)
+    (λ c. search needs)
+    (λ c. search needs)
+    (λ c. search needs)
+    (λ c. search needs)
+    (λ c. search needs)
+    (λ c. search needs)
+    (λ c. search needs)
+    (λ c. search needs)
+    returns
+    returns-2
+    returns-3
+    returns-4
+    returns-5
+    returns-6
+    returns-7
+    returns-8
+    returns-9)
