@@ -1,5 +1,5 @@
 #!/bin/sh
-# The batch command as a person has it: long lines and programs, lines in pieces, a last line without its end, bad usage.
+# The batch command as a person has it: long lines and programs, lines in pieces, a last line without its end.
 # The answers to single requests are held by crates/batch/stdout. Ends in 'N passed, M failed'.
 set -u
 cd "$(dirname "$0")/.." || exit 2
@@ -50,15 +50,8 @@ same '4,096 instructions' '0 0/' "$(straight 4095 | ./probewarden batch | lines)
 same '4,097 instructions' '1 0/' "$(straight 4096 | ./probewarden batch | lines)"
 same 'programs of 34,990 and 35,000 bytes' '1 0/error/' "$({ zeros 34990; zeros 35000; } | ./probewarden batch | lines)"
 
-./probewarden 2>/dev/null
-same 'status without a verb' 2 $?
-./probewarden nothing 2>/dev/null
-same 'status of an unknown verb' 2 $?
-./probewarden batch more 2>/dev/null </dev/null
-same 'status of a word too many' 2 $?
 echo "$asks" | ./probewarden batch >/dev/null
 same 'status of batch' 0 $?
-same 'usage on standard error' 'usage: probewarden batch <requests >answers' "$(./probewarden 2>&1 >/dev/null)"
 
 # through a link, from another folder
 there=$(mktemp -d)

@@ -13,7 +13,7 @@ use machine::outcome::Cause;
 use machine::outcome::Outcome;
 
 // The instruction at pc, fetched and obeyed.
-fn step(
+pub fn step(
     program: &[u8],
     rec: &[u8],
     p: u64,

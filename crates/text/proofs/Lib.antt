@@ -2,6 +2,7 @@ pub mod Digits
 pub mod Scans
 pub mod Numbers
 pub mod Pairing
+pub mod Dumps
 pub mod Puts
 pub mod Decimals
 pub mod Hexadecimals

@@ -12,6 +12,7 @@ use Rattle.text.specs.Hex.{fitting, paired, dash, spelled, bytesOf}
 use Rattle.text.specs.declared.pair.Pair.the-variants as a-pair
 use Rattle.text.specs.Scan.{other}
 use Rattle.text.specs.Pair.{joined, pair}
+use Rattle.text.specs.Dump.{commented, blank, kept, bareFrom, bareOf, lineEnds}
 use Rattle.text.specs.Buffer.{chars, lastDigits, decimal, glyph, lastSixteens, hexadecimal}
 
 -- 18446744073709551615 and the number after it, without their last digit
@@ -114,3 +115,16 @@ three-numbers = refl
 no-second-number : pair (chars "1/") ≡ a-pair.Not
 unfolding pair joined other number numberFrom digits value digit among
 no-second-number = refl
+
+-- blanks go, and a comment up to its line end, with the # and the digits in it
+stripped : bareOf (chars "a B#7#\n0\t7\r\n#") ≡ chars "aB07"
+unfolding bareOf bareFrom kept commented blank
+stripped = refl
+
+bad-letter-kept : bareOf (chars "0x1 # x\nz") ≡ chars "0x1z"
+unfolding bareOf bareFrom kept commented blank
+bad-letter-kept = refl
+
+third-line : lineEnds (chars "\n1\n2") ≡ 2
+unfolding lineEnds
+third-line = refl

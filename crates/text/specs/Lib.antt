@@ -4,3 +4,4 @@ pub mod Number
 pub mod Pair
 pub mod Hex
 pub mod Buffer
+pub mod Dump

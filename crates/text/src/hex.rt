@@ -19,7 +19,7 @@ fn byte(x: u64) -> u8
 }
 
 // The bytes that pairs of digits spell go to the start of `out`.
-fn read_pairs(s: &[u8], out: &mut [u8]) -> Bytes
+pub fn read_pairs(s: &[u8], out: &mut [u8]) -> Bytes
     ensures { λ r. ⌜ Spelled (now (s .entry)) (now (out .exit)) (length (now (out .entry))) (paired (now (s .entry)) (length (now (out .entry)))) r ⌝ }
 {
     let n = s.len() / 2;

@@ -2,6 +2,7 @@
 // The definitions that the contracts cite are in `specs/`. Assumes nothing.
 pub mod buffer;
 pub mod digit;
+pub mod dump;
 pub mod hex;
 pub mod number;
 pub mod page;

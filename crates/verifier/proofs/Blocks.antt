@@ -1,6 +1,6 @@
 -- How scratch memory holds the states that wait: a block is written, and the others wait as they did.
 -- Assumes nothing.
-use Prim.Native.Nat.{ℕ, zero, suc, _+_, _*_, _≤_, _<_}
+use Prim.Native.Nat.{ℕ, zero, suc, _+_, _-_, _*_, _≤_, _<_}
 use mathlib.Core.Path.{_≡_, refl, sym, ap, ap₂, _∙_, subst, fun-ext}
 use mathlib.Core.Bool.{Bool, true, false, cond}
 use mathlib.Core.Logic.{_⊎_, inl, inr, ⊎-elim}
@@ -19,15 +19,14 @@ use Rattle.analysis.specs.declared.Gone.the-variants.{Never}
 use Rattle.analysis.specs.declared.Value.{Value}
 use Rattle.analysis.specs.declared.Value.the-variants.{Unusable, Address}
 use Rattle.analysis.specs.Values.{Facts, valueOf, startFacts, joinedValue, joinedValues, joinedFacts, meeting}
-use Rattle.analysis.specs.Judged.{nobody, having, arrive}
-use Rattle.verifier.specs.declared.Change.{Change}
-use Rattle.verifier.specs.declared.Change.the-variants.{Same, One, Two}
-use Rattle.verifier.specs.Scratch.{valueAt, valuesAt, factsAt, waitingIn, changed, nothingKnown, Wrote, Stored, Cleared, Arrived, Begun}
-use Rattle.verifier.proofs.Words.{equal-words-hold-equal-values, number-of-values, value-of-a-state, equal-words-hold-equal-states, a-state-is-its-values, Storing, one-more-is-stored}
+use Rattle.analysis.specs.Judged.{Waiting, nobody, having, arrive}
+use Rattle.verifier.specs.declared.value.Held.{Held}
+use Rattle.verifier.specs.Scratch.{ofKind, heldIn, heldAt, valuesAt, factsAt, waitingIn, nothingKnown, Wrote, Holds, Changed, Stored, Cleared, Arrived, Begun}
+use Rattle.verifier.proofs.Words.{equal-words-hold-equal-values, number-of-values, value-of-a-state, equal-words-hold-equal-states, a-state-is-its-values, Storing, one-more-is-stored, equal-values-have-equal-words}
 
 -- ---- a register of a state
 
-pub register-in-range : (m : List ℕ) (at r : ℕ) → r < 11 → valueOf (factsAt m at) r ≡ valueAt m (at + 5 * r)
+pub register-in-range : (m : List ℕ) (at r : ℕ) → r < 11 → valueOf (factsAt m at) r ≡ heldIn (heldAt m (at + 5 * r))
 unfolding valueOf factsAt
 register-in-range m at r l = value-of-a-state 11 m at r l
 
@@ -45,43 +44,60 @@ set-beyond [] d v l = refl
 set-beyond (x ∷ a) zero v l = absurd (omega arith)
 set-beyond (x ∷ a) (suc d) v l = ap (λ y. x ∷ y) (set-beyond a d v (omega arith))
 
-pub nothing-is-put-out-of-range : (m : List ℕ) (at d : ℕ) (v : Value) → 11 ≤ d → Stored m m at (having (factsAt m at) d v)
-unfolding having factsAt
-nothing-is-put-out-of-range m at d v l = record {
-  size = refl;
-  held = ap (λ x. record { registers = x }) (sym (set-beyond (valuesAt 11 m at) d v (let q = number-of-values 11 m at in omega arith)));
-  others = λ i h. refl;
-}
+pub nothing-is-put-out-of-range : (m : List ℕ) (at d : ℕ) (h : Held) → 11 ≤ d → Changed m m at d h
+nothing-is-put-out-of-range m at d h l = record { size = refl; held = λ g. absurd (omega arith); others = λ i g. refl; outside = λ g. refl }
 
-pub a-register-is-put : (m m′ : List ℕ) (at d : ℕ) (v : Value) → d < 11 → Wrote m m′ (at + 5 * d) v → Stored m m′ at (having (factsAt m at) d v)
-unfolding having factsAt
-a-register-is-put m m′ at d v l w = record {
-  size = w .size;
-  held = ap (λ x. record { registers = x }) (a-state-is-its-values m′ at (set old d v) (length-set old d v ∙ number-of-values 11 m at) each);
-  others = λ i h. w .others i (⊎-elim (λ x. inl (omega arith)) (λ x. inr (omega arith)) h);
-}
+pub a-register-is-put : (m m′ : List ℕ) (at d : ℕ) (h : Held) → d < 11 → Wrote m m′ (at + 5 * d) h → Changed m m′ at d h
+a-register-is-put m m′ at d h l w = record { size = w .size; held = λ g. w .held; others = w .others; outside = λ g. absurd (omega arith) }
+
+-- r is not register d: its words are others
+apart : (at r d i : ℕ) → i < 5 → (r ≡ d → ⊥) → (at + 5 * r + i < at + 5 * d) ⊎ (at + 5 * d + 5 ≤ at + 5 * r + i)
+apart at r d i l ne = pick (ltb r d) refl
   where
-    old : List Value
-    old = valuesAt 11 m at
+    pick : (b : Bool) → ltb r d ≡ b → (at + 5 * r + i < at + 5 * d) ⊎ (at + 5 * d + 5 ≤ at + 5 * r + i)
+    pick true e = let q : r < d = ltb-true _ _ e in inl (omega arith)
+    pick false e = let q : d ≤ r = ltb-false _ _ e in inr (⊎-elim (λ (z : d ≡ r). absurd (ne (sym z))) (λ (z : d < r). omega arith) (eq-or-lt-of-le q))
 
-    other : (r : ℕ) → r < 11 → (r ≡ d → ⊥) → valueAt m′ (at + 5 * r) ≡ getD (set old d v) r (Unusable Never)
-    other r g ne =
-        equal-words-hold-equal-values m m′ (at + 5 * r) (at + 5 * r) (λ i k. w .others (at + 5 * r + i) (side i k (ltb r d) refl))
-        ∙ sym (value-of-a-state 11 m at r g) ∙ sym (getD-set-other old d r v (Unusable Never) ne)
-      where
-        side : (i : ℕ) → i < 5 → (b : Bool) → ltb r d ≡ b → (at + 5 * r + i < at + 5 * d) ⊎ (at + 5 * d + 5 ≤ at + 5 * r + i)
-        side i k true e = let q : r < d = ltb-true _ _ e in inl (omega arith)
-        side i k false e = let q : d ≤ r = ltb-false _ _ e in inr (⊎-elim (λ (z : d ≡ r). absurd (ne (sym z))) (λ (z : d < r). omega arith) (eq-or-lt-of-le q))
+module _ (m m′ : List ℕ) (at d : ℕ) (h : Held) (put : Changed m m′ at d h) where
+  old : List Value
+  old = valuesAt 11 m at
 
-    same : (r : ℕ) → r ≡ d → valueAt m′ (at + 5 * r) ≡ getD (set old d v) r (Unusable Never)
-    same r e = rw e (w .held ∙ sym (getD-set-same old d v (Unusable Never) (let q = number-of-values 11 m at in omega arith)))
+  abbrev Has : ℕ → Type 0
+  Has r = heldIn (heldAt m′ (at + 5 * r)) ≡ getD (set old d (heldIn h)) r (Unusable Never)
 
-    each : (r : ℕ) → r < 11 → valueAt m′ (at + 5 * r) ≡ getD (set old d v) r (Unusable Never)
-    each r g = pick (eqb r d) refl
-      where
-        pick : (b : Bool) → eqb r d ≡ b → valueAt m′ (at + 5 * r) ≡ getD (set old d v) r (Unusable Never)
-        pick true e = same r (eqb-true r d e)
-        pick false e = other r g (eqb-false r d e)
+  the-register-put : (r : ℕ) → r < 11 → r ≡ d → Has r
+  unfolding old
+  the-register-put r g e =
+      ap (λ x. heldIn (heldAt m′ (at + 5 * x))) e ∙ ap heldIn (put .held (omega arith))
+      ∙ sym (getD-set-same old d (heldIn h) (Unusable Never) (let q = number-of-values 11 m at in omega arith))
+      ∙ ap (λ x. getD (set old d (heldIn h)) x (Unusable Never)) (sym e)
+
+  another-register : (r : ℕ) → r < 11 → (r ≡ d → ⊥) → Has r
+  unfolding old
+  another-register r g ne =
+      ap heldIn (equal-words-hold-equal-values m m′ (at + 5 * r) (at + 5 * r) (λ i k. put .others (at + 5 * r + i) (apart at r d i k ne)))
+      ∙ sym (value-of-a-state 11 m at r g) ∙ sym (getD-set-other old d r (heldIn h) (Unusable Never) ne)
+
+  each-register : (r : ℕ) → r < 11 → Has r
+  each-register r g = pick (eqb r d) refl
+    where
+      pick : (b : Bool) → eqb r d ≡ b → Has r
+      pick true e = the-register-put r g (eqb-true r d e)
+      pick false e = another-register r g (eqb-false r d e)
+
+  words-outside-the-state : (i : ℕ) → (i < at) ⊎ (at + 55 ≤ i) → (b : Bool) → ltb d 11 ≡ b → getD m′ i 0 ≡ getD m i 0
+  words-outside-the-state i g true e =
+      let q : d < 11 = ltb-true _ _ e in put .others i (⊎-elim (λ x. inl (omega arith)) (λ x. inr (omega arith)) g)
+  words-outside-the-state i g false e = ap (λ x. getD x i 0) (put .outside (ltb-false _ _ e))
+
+  pub a-changed-register-is-stored : Stored m m′ at (having (factsAt m at) d (heldIn h))
+  unfolding having factsAt old
+  a-changed-register-is-stored = record {
+    size = put .size;
+    held = ap (λ x. record { registers = x })
+        (a-state-is-its-values m′ at (set old d (heldIn h)) (length-set old d (heldIn h) ∙ number-of-values 11 m at) each-register);
+    others = λ i g. words-outside-the-state i g (ltb d 11) refl;
+  }
 
 -- ---- a state is stored in steps
 
@@ -91,34 +107,16 @@ a-stored-state-is-altered : (f : Facts → Facts) (m m′ m″ : List ℕ) (at :
 a-stored-state-is-altered f m m′ m″ at a h g =
     record { size = g .size ∙ h .size; held = g .held ∙ ap f (h .held); others = λ i l. g .others i l ∙ h .others i l }
 
-pub two-registers-are-put : (m m′ m″ : List ℕ) (at d e : ℕ) (v w : Value) → Stored m m′ at (having (factsAt m at) d v)
-    → Stored m′ m″ at (having (factsAt m′ at) e w) → Stored m m″ at (having (having (factsAt m at) d v) e w)
-two-registers-are-put m m′ m″ at d e v w = a-stored-state-is-altered (λ a. having a e w) m m′ m″ at (having (factsAt m at) d v)
-
-pub a-changed-state-is-copied : (m m′ m″ : List ℕ) (from to : ℕ) (change : Change) → Stored m m′ to (factsAt m from)
-    → Stored m′ m″ to (changed (factsAt m′ to) change) → Stored m m″ to (changed (factsAt m from) change)
-a-changed-state-is-copied m m′ m″ from to change = a-stored-state-is-altered (λ a. changed a change) m m′ m″ to (factsAt m from)
-
 pub the-start-is-written : (m m′ m″ m‴ : List ℕ) (at : ℕ) (e f : Number) → Stored m m′ at nothingKnown
-    → Stored m′ m″ at (having (factsAt m′ at) 1 (Address Record e)) → Stored m″ m‴ at (having (factsAt m″ at) 10 (Address Stack f))
+    → Changed m′ m″ at 1 (record { kind = 3; number = e }) → Changed m″ m‴ at 10 (record { kind = 4; number = f })
     → e ≡ exact 0 → f ≡ exact 512 → Stored m m‴ at startFacts
-unfolding nothingKnown startFacts having
+unfolding nothingKnown startFacts having heldIn ofKind
 the-start-is-written m m′ m″ m‴ at e f h g k is-0 is-512 =
     subst (λ x. Stored m m‴ at (having (having nothingKnown 1 (Address Record x)) 10 (Address Stack (exact 512)))) is-0
     (subst (λ x. Stored m m‴ at (having (having nothingKnown 1 (Address Record e)) 10 (Address Stack x))) is-512
     (a-stored-state-is-altered (λ a. having a 10 (Address Stack f)) m m″ m‴ at _
-    (a-stored-state-is-altered (λ a. having a 1 (Address Record e)) m m′ m″ at nothingKnown h g) k))
-
-pub the-register-that-is-put : (a : Facts) (r d : ℕ) (v : Value) → length (a .registers) ≡ 11 → r < 11 → r ≡ d → v ≡ valueOf (having a d v) r
-unfolding valueOf having
-the-register-that-is-put a r d v size l e = rw e (sym (getD-set-same (a .registers) d v (Unusable Never) (omega arith)))
-
-pub another-register : (a : Facts) (r d : ℕ) (v : Value) → (r ≡ d → ⊥) → valueOf a r ≡ valueOf (having a d v) r
-unfolding valueOf having
-another-register a r d v ne = sym (getD-set-other (a .registers) d r v (Unusable Never) ne)
-
-pub a-state-stays : (m : List ℕ) (at : ℕ) → Stored m m at (factsAt m at)
-a-state-stays m at = record { size = refl; held = refl; others = λ i h. refl }
+    (a-stored-state-is-altered (λ a. having a 1 (Address Record e)) m m′ m″ at nothingKnown h (a-changed-register-is-stored m′ m″ at 1 _ g))
+    (a-changed-register-is-stored m″ m‴ at 10 _ k)))
 
 -- the first k of 55 words are copied
 pub record Copying (m m′ : List ℕ) (from to k : ℕ) : Type 0 where
@@ -182,22 +180,14 @@ pub a-state-has-eleven : (m : List ℕ) (at : ℕ) → length (factsAt m at .reg
 unfolding factsAt
 a-state-has-eleven m at = number-of-values 11 m at
 
-pub a-change-keeps-the-length : (m : List ℕ) (at : ℕ) (change : Change) → length (changed (factsAt m at) change .registers) ≡ 11
-unfolding changed having factsAt
-a-change-keeps-the-length m at Same = number-of-values 11 m at
-a-change-keeps-the-length m at (One d v) = length-set (valuesAt 11 m at) d v ∙ number-of-values 11 m at
-a-change-keeps-the-length m at (Two d v e w) =
-    length-set (set (valuesAt 11 m at) d v) e w ∙ length-set (valuesAt 11 m at) d v ∙ number-of-values 11 m at
+-- what the join of the state at `to` and of the one at `from` holds
+abbrev pub joinedState : List ℕ → ℕ → ℕ → Facts
+joinedState m from to = joinedFacts (factsAt m to) (factsAt m from)
 
--- what the join of the state at `to` and of the one that is sent there holds
-abbrev pub joinedState : List ℕ → ℕ → ℕ → Change → Facts
-joinedState m from to change = joinedFacts (factsAt m to) (changed (factsAt m from) change)
-
-pub a-join-keeps-the-length : (m : List ℕ) (from to : ℕ) (change : Change) → length (joinedState m from to change .registers) ≡ 11
+pub a-join-keeps-the-length : (m : List ℕ) (from to : ℕ) → length (joinedState m from to .registers) ≡ 11
 unfolding joinedFacts
-a-join-keeps-the-length m from to change =
-    length-of-a-join (factsAt m to .registers) (changed (factsAt m from) change .registers)
-    (a-state-has-eleven m to ∙ sym (a-change-keeps-the-length m from change))
+a-join-keeps-the-length m from to =
+    length-of-a-join (factsAt m to .registers) (factsAt m from .registers) (a-state-has-eleven m to ∙ sym (a-state-has-eleven m from))
     ∙ a-state-has-eleven m to
 
 register-of-joined-facts : (a b : Facts) (r : ℕ) → length (a .registers) ≡ 11 → length (b .registers) ≡ 11 → r < 11
@@ -205,24 +195,24 @@ register-of-joined-facts : (a b : Facts) (r : ℕ) → length (a .registers) ≡
 unfolding joinedFacts valueOf
 register-of-joined-facts a b r la lb l = register-of-a-join (a .registers) (b .registers) r (la ∙ sym lb) (omega arith)
 
-pub a-register-is-joined : (m m′ m″ : List ℕ) (from to r : ℕ) (change : Change) → from + 55 ≤ to → r < 11
-    → Storing m m′ to (joinedState m from to change .registers) r
-    → Wrote m′ m″ (to + 5 * r) (joinedValue (valueAt m′ (to + 5 * r)) (valueOf (changed (factsAt m′ from) change) r))
-    → Storing m m″ to (joinedState m from to change .registers) (r + 1)
-a-register-is-joined m m′ m″ from to r change apart l h w = one-more-is-stored m m′ m″ to (joinedState m from to change .registers) r _ l is h w
+pub a-register-is-joined : (m m′ m″ : List ℕ) (from to r : ℕ) → from + 55 ≤ to → r < 11
+    → Storing m m′ to (joinedState m from to .registers) r
+    → Holds m′ m″ (to + 5 * r) (joinedValue (heldIn (heldAt m′ (to + 5 * r))) (heldIn (heldAt m′ (from + 5 * r))))
+    → Storing m m″ to (joinedState m from to .registers) (r + 1)
+a-register-is-joined m m′ m″ from to r far l h w = one-more-is-stored m m′ m″ to (joinedState m from to .registers) r _ l is h w
   where
-    from-is : factsAt m′ from ≡ factsAt m from
-    from-is = a-state-is-kept m m′ from (λ i g. h .others i (inl (omega arith)))
+    from-is : heldIn (heldAt m′ (from + 5 * r)) ≡ valueOf (factsAt m from) r
+    from-is = ap heldIn (equal-words-hold-equal-values m m′ (from + 5 * r) (from + 5 * r) (λ i g. h .others (from + 5 * r + i) (inl (omega arith))))
+        ∙ sym (register-in-range m from r l)
 
-    to-is : valueAt m′ (to + 5 * r) ≡ valueOf (factsAt m to) r
-    to-is = equal-words-hold-equal-values m m′ (to + 5 * r) (to + 5 * r) (λ i g. h .others (to + 5 * r + i) (inr (omega arith)))
+    to-is : heldIn (heldAt m′ (to + 5 * r)) ≡ valueOf (factsAt m to) r
+    to-is = ap heldIn (equal-words-hold-equal-values m m′ (to + 5 * r) (to + 5 * r) (λ i g. h .others (to + 5 * r + i) (inr (omega arith))))
         ∙ sym (register-in-range m to r l)
 
-    is : getD (joinedState m from to change .registers) r (Unusable Never)
-        ≡ joinedValue (valueAt m′ (to + 5 * r)) (valueOf (changed (factsAt m′ from) change) r)
-    is = register-of-joined-facts (factsAt m to) (changed (factsAt m from) change) r (a-state-has-eleven m to)
-        (a-change-keeps-the-length m from change) l
-        ∙ ap₂ joinedValue (sym to-is) (ap (λ a. valueOf (changed a change) r) (sym from-is))
+    is : getD (joinedState m from to .registers) r (Unusable Never)
+        ≡ joinedValue (heldIn (heldAt m′ (to + 5 * r))) (heldIn (heldAt m′ (from + 5 * r)))
+    is = register-of-joined-facts (factsAt m to) (factsAt m from) r (a-state-has-eleven m to) (a-state-has-eleven m from) l
+        ∙ ap₂ joinedValue (sym to-is) (sym from-is)
 
 -- ---- blocks
 
@@ -301,6 +291,57 @@ a-state-comes-to-an-unmarked-block n i m m′ j a before l fit ne st = record {
   where
     same : factsAt (set m′ (56 * j) 1) (56 * j + 1) ≡ factsAt m′ (56 * j + 1)
     same = equal-states m′ (set m′ (56 * j) 1) (56 * j + 1) (λ k h. getD-set-other m′ (56 * j) (56 * j + 1 + k) 1 0 (λ e. omega arith))
+
+-- ---- a register is changed, and put back
+
+-- the words outside of the state at index i do not tell what waits at another index
+others-do-not-see : (n i : ℕ) (m m′ : List ℕ) → ((k : ℕ) → (k < 56 * i + 1) ⊎ (56 * i + 1 + 55 ≤ k) → getD m′ k 0 ≡ getD m k 0)
+    → (x : ℕ) → (x ≡ i → ⊥) → waitingIn n m′ x ≡ waitingIn n m x
+unfolding waitingIn
+others-do-not-see n i m m′ h x ne =
+    ap (λ y. cond (ltb x n) y none)
+    (equal-blocks m m′ (56 * x) (λ k l. h (56 * x + k) (⊎-elim (λ z. inl (omega arith)) (λ z. inr (omega arith)) (side i x k l ne))))
+
+what-waits-is-kept : (n i : ℕ) (m m′ : List ℕ) → ((k : ℕ) → k < 56 * i + 56 → getD m′ k 0 ≡ getD m k 0) → waitingIn n m′ i ≡ waitingIn n m i
+unfolding waitingIn
+what-waits-is-kept n i m m′ h = ap (λ y. cond (ltb i n) y none) (equal-blocks m m′ (56 * i) (λ k l. h (56 * i + k) (omega arith)))
+
+-- before is changed to sent, what is done then leaves done, and the register's words are put back
+module _ (n i d : ℕ) (m sent done m′ : List ℕ) (h old : Held) (was : d < 11 → old ≡ heldAt m (56 * i + 1 + 5 * d))
+    (put : Changed m sent (56 * i + 1) d h) (back : Changed done m′ (56 * i + 1) d old)
+    (kept : (k : ℕ) → k < 56 * i + 56 → getD done k 0 ≡ getD sent k 0) where
+  at-the-register : d < 11 → (k : ℕ) → 56 * i + 1 + 5 * d ≤ k → k < 56 * i + 1 + 5 * d + 5 → getD m′ k 0 ≡ getD m k 0
+  at-the-register l k low high =
+      subst (λ x. getD m′ x 0 ≡ getD m x 0) (let q : 56 * i + 1 + 5 * d + (k - (56 * i + 1 + 5 * d)) ≡ k = omega arith in q)
+      (equal-values-have-equal-words m m′ (56 * i + 1 + 5 * d) (56 * i + 1 + 5 * d) (back .held l ∙ was l) (k - (56 * i + 1 + 5 * d)) (omega arith))
+
+  beside-it : (k : ℕ) → k < 56 * i + 56 → (k < 56 * i + 1 + 5 * d) ⊎ (56 * i + 1 + 5 * d + 5 ≤ k) → getD m′ k 0 ≡ getD m k 0
+  beside-it k l g = back .others k g ∙ kept k l ∙ put .others k g
+
+  pub what-was-is-back : (k : ℕ) → k < 56 * i + 56 → getD m′ k 0 ≡ getD m k 0
+  what-was-is-back k l = go (ltb d 11) refl (ltb k (56 * i + 1 + 5 * d)) refl (ltb k (56 * i + 1 + 5 * d + 5)) refl
+    where
+      go : (a : Bool) → ltb d 11 ≡ a → (b : Bool) → ltb k (56 * i + 1 + 5 * d) ≡ b → (c : Bool) → ltb k (56 * i + 1 + 5 * d + 5) ≡ c
+          → getD m′ k 0 ≡ getD m k 0
+      go a p true q c r = beside-it k l (inl (ltb-true _ _ q))
+      go a p false q false r = beside-it k l (inr (ltb-false _ _ r))
+      go true p false q true r = at-the-register (ltb-true _ _ p) k (ltb-false _ _ q) (ltb-true _ _ r)
+      go false p false q true r = let z : 11 ≤ d = ltb-false _ _ p in let y : 56 * i + 1 + 5 * d ≤ k = ltb-false _ _ q in absurd (omega arith)
+
+  -- what becomes of what waits, index by index, becomes of what waited before
+  pub what-is-done-is-done : (f : Waiting → Waiting) → ((p q : Waiting) (x : ℕ) → p x ≡ q x → f p x ≡ f q x) → ((p : Waiting) → f p i ≡ p i)
+      → waitingIn n done ≡ f (waitingIn n sent) → waitingIn n m′ ≡ f (waitingIn n m)
+  what-is-done-is-done f each here does = fun-ext (λ x. pick x (eqb x i) refl)
+    where
+      there : (x : ℕ) → (x ≡ i → ⊥) → waitingIn n m′ x ≡ f (waitingIn n m) x
+      there x ne =
+          others-do-not-see n i done m′ (a-changed-register-is-stored done m′ (56 * i + 1) d old back .others) x ne
+          ∙ ap (λ w. w x) does
+          ∙ each (waitingIn n sent) (waitingIn n m) x (others-do-not-see n i m sent (a-changed-register-is-stored m sent (56 * i + 1) d h put .others) x ne)
+
+      pick : (x : ℕ) (b : Bool) → eqb x i ≡ b → waitingIn n m′ x ≡ f (waitingIn n m) x
+      pick x true e = rw (eqb-true x i e) (what-waits-is-kept n i m m′ what-was-is-back ∙ sym (here (waitingIn n m)))
+      pick x false e = there x (eqb-false x i e)
 
 -- ---- the marks are cleared
 

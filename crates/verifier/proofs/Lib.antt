@@ -1,7 +1,9 @@
 pub mod Answers
 pub mod Blocks
+pub mod Inspecting
+pub mod KindLaws
 pub mod Memory
-pub mod Permits
+pub mod Outcomes
 pub mod Promise
 pub mod Steps
 pub mod Tests

@@ -2,39 +2,38 @@
 -- Assumes nothing.
 use Prim.Native.Nat.{ℕ, suc, _+_, _-_, _*_, _/_, _≤_, _<_, min}
 use mathlib.Core.Path.{_≡_, refl, sym, ap, _∙_, subst, fun-ext}
-use mathlib.Core.Bool.{Bool, true, false, cond, _||_}
+use mathlib.Core.Bool.{Bool, true, false, cond, not, _||_}
 use mathlib.Core.Option.{Option, none, some}
 use mathlib.Core.List.{List}
 use lib.ListN.{length, getD}
 use lib.Dec.{ltb, leb, eqb}
 use native.Mathlib.Omega.{arith}
 use native.Mathlib.Nat.{sub-zero}
-use borrow.Author.Tests.{lt-ltb, le-ltb, leb-true, leb-false}
+use borrow.Author.Tests.{ne-eqb, lt-ltb, le-ltb, leb-true, leb-false}
 use Rattle.word.specs.declared.Comparison.{Comparison}
-use Rattle.word.specs.declared.Operation.{Operation}
 use Rattle.machine.specs.declared.instruction.Operand.{Operand}
 use Rattle.machine.specs.declared.instruction.Instruction.{Instruction}
 use Rattle.machine.specs.declared.instruction.Instruction.the-variants.{Alu, Neg, Jump, Always, Exit, Load, Store, NoInstruction}
-use Rattle.machine.specs.Machine.{bits, bytes}
-use Rattle.number.specs.Computed.{fits, computed}
-use Rattle.number.specs.Sharpen.{exact, loaded}
-use Rattle.word.specs.declared.Operation.the-variants.{Add}
+use Rattle.number.specs.declared.Refined.{Refined}
+use Rattle.number.specs.Compare.{taken, notTaken}
 use Rattle.analysis.specs.declared.Reason.{Reason}
-use Rattle.analysis.specs.declared.Reason.the-variants.{JumpsOut, ReadsUnset, Outside, LeaksAddress}
-use Rattle.analysis.specs.declared.Region.the-variants.{Record, Stack}
+use Rattle.analysis.specs.declared.Reason.the-variants.{JumpsOut, ReadsUnset, LeaksAddress}
 use Rattle.analysis.specs.declared.Finding.the-variants.{Accepted, Refused}
 use Rattle.analysis.specs.declared.Value.{Value}
 use Rattle.analysis.specs.declared.Value.the-variants.{Unusable, Plain, Address}
 use Rattle.analysis.specs.declared.Effect.{Effect}
-use Rattle.analysis.specs.declared.Effect.the-variants.{Refuse, Keep}
-use Rattle.analysis.specs.Values.{Facts, valueOf, operandOf}
-use Rattle.analysis.specs.Effects.{isNever, isMixed, reading, readingBoth, put, Role, copies, converts, adds, subtracts, calculates, role, calculate, sum, difference, arithmetic, limit, load, storeAt, store, fork, exit, effect}
+use Rattle.analysis.specs.declared.Effect.the-variants.{Refuse, Goto}
+use Rattle.analysis.specs.Values.{Facts, valueOf, operandOf, meeting}
+use Rattle.analysis.specs.Effects.{isNever, isMixed, readingBoth, fork, effect}
 use Rattle.analysis.specs.Form.{instruction}
-use Rattle.analysis.specs.Judged.{Waiting, arrive, Flow, refuses, flows, apply, along, Progress, halted, onward, send, andThen, distribute, visit, Walk, conclude, pass, followed}
+use Rattle.analysis.specs.Judged.{Waiting, having, arrive, Flow, refuses, flows, apply, along, Progress, halted, onward, send, andThen, distribute, visit, Walk, conclude, pass, followed}
 use Rattle.verifier.specs.declared.Step.{Step}
 use Rattle.verifier.specs.declared.Step.the-variants.{Halt, More}
-use Rattle.verifier.specs.Scratch.{factsAt, waitingIn, shortened, Ahead, Says, Arrived, Sent, Begun, Followed}
-use Rattle.verifier.proofs.Blocks.{a-state-is-kept, a-marked-block-waits, nothing-waits-in-an-unmarked-block}
+use Rattle.verifier.specs.declared.value.Held.{Held}
+use Rattle.verifier.specs.Scratch.{heldIn, heldAt, factsAt, waitingIn, shortened, Changed, Says, Arrived, Sent, Begun, Followed}
+use Rattle.verifier.specs.Outcome.{reasonOf, unusable}
+use Rattle.verifier.proofs.Blocks.{a-state-is-kept, a-marked-block-waits, nothing-waits-in-an-unmarked-block, a-changed-register-is-stored, what-was-is-back, what-is-done-is-done}
+use Rattle.verifier.proofs.Outcomes.{they-may-not-be-compared, they-are-compared}
 
 -- ---- a state is sent
 
@@ -55,6 +54,49 @@ going-on-changes-nothing p n i m work e = record { made = record { size = refl; 
 
 pub halting-changes-nothing : (n i : ℕ) (m : List ℕ) (reason : Reason) (work : ℕ) → Sent (halted reason (waitingIn n m) work) n i (Halt reason work) m m
 halting-changes-nothing n i m reason work = record { made = record { size = refl; says = (refl, refl) }; kept = λ k h. refl }
+
+-- ---- a state is sent with a register changed
+
+arrivals-are-apart : (p q : Waiting) (j : ℕ) (a : Facts) (x : ℕ) → p x ≡ q x → arrive p j a x ≡ arrive q j a x
+unfolding arrive
+arrivals-are-apart p q j a x e = ap (λ o. cond (eqb x j) (some (meeting o a)) o) e
+
+nothing-arrives-before : (p : Waiting) (i j : ℕ) (a : Facts) → i < j → arrive p j a i ≡ p i
+unfolding arrive
+nothing-arrives-before p i j a l = rw (ne-eqb i j (λ e. omega arith))
+
+-- f is what is changed further
+pub a-changed-state-is-sent : (f : Facts → Facts) (n i j d work : ℕ) (m sent done m′ : List ℕ) (h old : Held) (v : Value) (r : Step) → i < j
+    → heldIn h ≡ v → (d < 11 → old ≡ heldAt m (56 * i + 1 + 5 * d)) → Changed m sent (56 * i + 1) d h → Changed done m′ (56 * i + 1) d old
+    → Sent (send n j (some (f (factsAt sent (56 * i + 1)))) (waitingIn n sent) work) n i r sent done
+    → Sent (send n j (some (f (having (factsAt m (56 * i + 1)) d v))) (waitingIn n m) work) n i r m m′
+unfolding send
+a-changed-state-is-sent f n i j d work m sent done m′ h old v r l is was put back s =
+    subst (λ x. Sent (send n j (some (f x)) (waitingIn n m) work) n i r m m′)
+    (a-changed-register-is-stored m sent (56 * i + 1) d h put .held ∙ ap (having (factsAt m (56 * i + 1)) d) is)
+    (record {
+      made = record { size = back .size ∙ s .made .size ∙ put .size; says = go (ltb j n) (s .made .says) };
+      kept = what-was-is-back n i d m sent done m′ h old was put back (s .kept);
+    })
+  where
+    a : Facts
+    a = f (factsAt sent (56 * i + 1))
+
+    becomes : (g : Waiting → Waiting) → ((p q : Waiting) (x : ℕ) → p x ≡ q x → g p x ≡ g q x) → ((p : Waiting) → g p i ≡ p i)
+        → waitingIn n done ≡ g (waitingIn n sent) → waitingIn n m′ ≡ g (waitingIn n m)
+    becomes = what-is-done-is-done n i d m sent done m′ h old was put back (s .kept)
+
+    go : (b : Bool) → Says (cond b (onward (arrive (waitingIn n sent) j a) (work + 11)) (halted JumpsOut (waitingIn n sent) work)) n r done
+        → Says (cond b (onward (arrive (waitingIn n m) j a) (work + 11)) (halted JumpsOut (waitingIn n m) work)) n r m′
+    go true e = (e .0, becomes (λ p. arrive p j a) (λ p q x. arrivals-are-apart p q j a x) (λ p. nothing-arrives-before p i j a l) (e .1))
+    go false e = (e .0, becomes (λ p. p) (λ p q x y. y) (λ p. refl) (e .1))
+
+pub a-state-changed-twice-is-sent : (n i j d e work : ℕ) (m sent done m′ : List ℕ) (h old : Held) (v w : Value) (r : Step) → i < j
+    → heldIn h ≡ v → (d < 11 → old ≡ heldAt m (56 * i + 1 + 5 * d)) → Changed m sent (56 * i + 1) d h → Changed done m′ (56 * i + 1) d old
+    → Sent (send n j (some (having (factsAt sent (56 * i + 1)) e w)) (waitingIn n sent) work) n i r sent done
+    → Sent (send n j (some (having (having (factsAt m (56 * i + 1)) d v) e w)) (waitingIn n m) work) n i r m m′
+a-state-changed-twice-is-sent n i j d e work m sent done m′ h old v w r =
+    a-changed-state-is-sent (λ a. having a e w) n i j d work m sent done m′ h old v r
 
 -- ---- two steps
 
@@ -126,10 +168,10 @@ unfolding spent
 more-is-what-was-spent (halted reason p work′) n i m m′ work h = absurd (let e = h .made .says .0 in let z : _≡_ {A = ℕ} 0 1 = cc in omega arith)
 more-is-what-was-spent (onward p work′) n i m m′ work h = let e = h .made .says .0 in cc
 
-pub a-send-leaves : (n j : ℕ) (o : Option Facts) (p : Waiting) (work i : ℕ) (m m′ : List ℕ) (done : ℕ)
-    → Sent (send n j o p work) n i (More done) m m′ → done ≤ work + 11
-a-send-leaves n j o p work i m m′ done h =
-    let e = more-is-what-was-spent (send n j o p work) n i m m′ done h in let q = a-send-spends n j o p work in omega arith
+pub a-send-leaves : (n j : ℕ) (o : Option Facts) (p : Waiting) (work i : ℕ) (r : Step) (m m′ : List ℕ) (done : ℕ)
+    → Sent (send n j o p work) n i r m m′ → r ≡ More done → done ≤ work + 11
+a-send-leaves n j o p work i r m m′ done h more =
+    let e = more-is-what-was-spent (send n j o p work) n i m m′ done (rw more at h) in let q = a-send-spends n j o p work in omega arith
 
 -- ---- a jump that leads out may be shortened
 
@@ -186,111 +228,41 @@ a-shortened-jump-leads-out-as-well n i R p work a (Load z d s off) = refl
 a-shortened-jump-leads-out-as-well n i R p work a (Store z d off s) = refl
 a-shortened-jump-leads-out-as-well n i R p work a NoInstruction = refl
 
--- ---- an effect leads on
+-- ---- a jump
 
-ahead-if : (i : ℕ) (b : Bool) (e f : Effect) → Ahead i e → Ahead i f → Ahead i (cond b e f)
-ahead-if i true e f h g = h
-ahead-if i false e f h g = g
+module _ (n i work : ℕ) (m : List ℕ) (c : Comparison) (d : ℕ) (s : Operand) (target : ℕ) (u v : Held)
+    (is-u : heldIn u ≡ valueOf (factsAt m (56 * i + 1)) d) (is-v : heldIn v ≡ operandOf (factsAt m (56 * i + 1)) s) where
+  abbrev Jumps : Progress
+  Jumps =
+      distribute n i (waitingIn n m) work (apply (factsAt m (56 * i + 1))
+      (readingBoth (valueOf (factsAt m (56 * i + 1)) d) (operandOf (factsAt m (56 * i + 1)) s)
+      (fork c d s target (valueOf (factsAt m (56 * i + 1)) d) (operandOf (factsAt m (56 * i + 1)) s))))
 
-refusal-ahead : (i : ℕ) (reason : Reason) → Ahead i (Refuse reason)
-refusal-ahead i reason = record { leads = tt }
+  pub a-jump-on-no-numbers : (code : ℕ) (reason : Reason) → (not (eqb (u .kind) 2) || not (eqb (v .kind) 2)) ≡ true → code ≡ unusable (u .kind) (v .kind)
+      → reason ≡ reasonOf code → Sent Jumps n i (Halt reason work) m m
+  unfolding apply distribute
+  a-jump-on-no-numbers code reason e is-code is-reason =
+      rw (sym is-u, sym is-v, sym (they-may-not-be-compared u v c d s target e), sym is-code, sym is-reason)
+      (halting-changes-nothing n i m reason work)
 
-reading-ahead : (i : ℕ) (x : Value) (e : Effect) → Ahead i e → Ahead i (reading x e)
-unfolding reading
-reading-ahead i x e h = ahead-if i (isNever x) _ _ (refusal-ahead i _) (ahead-if i (isMixed x) _ _ (refusal-ahead i _) h)
+  module _ (e : (not (eqb (u .kind) 2) || not (eqb (v .kind) 2)) ≡ false) (x : Refined) (is-x : x ≡ notTaken c (u .number) (v .number)) where
+    both-ways : (y : Refined) → y ≡ taken c (u .number) (v .number)
+        → Jumps ≡ andThen (send n (i + 1) (along (factsAt m (56 * i + 1)) d s x) (waitingIn n m) work) (send n target (along (factsAt m (56 * i + 1)) d s y))
+    unfolding apply distribute
+    both-ways y is-y = rw (sym is-u, sym is-v, sym (they-are-compared u v c d s target e), sym is-x, sym is-y)
 
-reading-both-ahead : (i : ℕ) (x y : Value) (e : Effect) → Ahead i e → Ahead i (readingBoth x y e)
-unfolding readingBoth
-reading-both-ahead i x y e h =
-    ahead-if i (isNever x || isNever y) _ _ (refusal-ahead i _) (ahead-if i (isMixed x || isMixed y) _ _ (refusal-ahead i _) h)
+    pub a-jump-that-halts : (m′ : List ℕ) (reason : Reason) (done : ℕ)
+        → Sent (send n (i + 1) (along (factsAt m (56 * i + 1)) d s x) (waitingIn n m) work) n i (Halt reason done) m m′ → Sent Jumps n i (Halt reason done) m m′
+    a-jump-that-halts m′ reason done h =
+        subst (λ p. Sent p n i (Halt reason done) m m′) (sym (both-ways _ refl)) (a-step-that-halts _ _ n i m m′ reason done h)
 
-put-ahead : (i d : ℕ) (v : Value) → Ahead i (put d v)
-unfolding put
-put-ahead i d v = ahead-if i (eqb d 10) _ _ (refusal-ahead i _) (record { leads = tt })
-
-calculate-ahead : (i w : ℕ) (op : Operation) (d : ℕ) (x y : Value) → Ahead i (calculate w op d x y)
-unfolding calculate
-calculate-ahead i w op d (Plain a) (Plain b) = put-ahead i d _
-calculate-ahead i w op d (Plain a) (Unusable h) = refusal-ahead i _
-calculate-ahead i w op d (Plain a) (Address q b) = refusal-ahead i _
-calculate-ahead i w op d (Unusable g) y = refusal-ahead i _
-calculate-ahead i w op d (Address p a) y = refusal-ahead i _
-
-sum-ahead : (i d : ℕ) (x y : Value) → Ahead i (sum d x y)
-unfolding sum
-sum-ahead i d (Plain a) (Plain b) = put-ahead i d _
-sum-ahead i d (Plain a) (Address q b) = put-ahead i d _
-sum-ahead i d (Plain a) (Unusable h) = refusal-ahead i _
-sum-ahead i d (Address p a) (Plain b) = put-ahead i d _
-sum-ahead i d (Address p a) (Address q b) = refusal-ahead i _
-sum-ahead i d (Address p a) (Unusable h) = refusal-ahead i _
-sum-ahead i d (Unusable g) y = refusal-ahead i _
-
-difference-ahead : (i d : ℕ) (x y : Value) → Ahead i (difference d x y)
-unfolding difference
-difference-ahead i d (Plain a) (Plain b) = put-ahead i d _
-difference-ahead i d (Plain a) (Address q b) = refusal-ahead i _
-difference-ahead i d (Plain a) (Unusable h) = refusal-ahead i _
-difference-ahead i d (Address p a) (Plain b) = put-ahead i d _
-difference-ahead i d (Address p a) (Address q b) = refusal-ahead i _
-difference-ahead i d (Address p a) (Unusable h) = refusal-ahead i _
-difference-ahead i d (Unusable g) y = refusal-ahead i _
-
-arithmetic-ahead : (i : ℕ) (r : Role) (w : ℕ) (op : Operation) (d : ℕ) (x y : Value) → Ahead i (arithmetic r w op d x y)
-unfolding arithmetic
-arithmetic-ahead i copies w op d x y = reading-ahead i y _ (put-ahead i d y)
-arithmetic-ahead i converts w op d x y = reading-ahead i y _ (calculate-ahead i w op d y y)
-arithmetic-ahead i adds w op d x y = reading-both-ahead i x y _ (sum-ahead i d x y)
-arithmetic-ahead i subtracts w op d x y = reading-both-ahead i x y _ (difference-ahead i d x y)
-arithmetic-ahead i calculates w op d x y = reading-both-ahead i x y _ (calculate-ahead i w op d x y)
-
-load-ahead : (i R size d off : ℕ) (x : Value) → Ahead i (load R size d off x)
-unfolding load
-load-ahead i R size d off (Address p a) =
-    ahead-if i (fits (computed 64 Add a (exact off)) size (limit R p)) (put d (Plain (loaded size))) (Refuse Outside) (put-ahead i d _) (refusal-ahead i _)
-load-ahead i R size d off (Plain a) = refusal-ahead i _
-load-ahead i R size d off (Unusable g) = refusal-ahead i _
-
-store-at-ahead : (i size off : ℕ) (x : Value) → Ahead i (storeAt size off x)
-unfolding storeAt
-store-at-ahead i size off (Address Stack a) =
-    ahead-if i (fits (computed 64 Add a (exact off)) size 512) Keep (Refuse Outside) (record { leads = tt }) (refusal-ahead i _)
-store-at-ahead i size off (Address Record a) = refusal-ahead i _
-store-at-ahead i size off (Plain a) = refusal-ahead i _
-store-at-ahead i size off (Unusable g) = refusal-ahead i _
-
-store-ahead : (i size off : ℕ) (x y : Value) → Ahead i (store size off x y)
-unfolding store
-store-ahead i size off x (Plain b) = store-at-ahead i size off x
-store-ahead i size off x (Address q b) = refusal-ahead i _
-store-ahead i size off x (Unusable h) = refusal-ahead i _
-
-fork-ahead : (i : ℕ) (c : Comparison) (d : ℕ) (s : Operand) (target : ℕ) (x y : Value) → i < target → Ahead i (fork c d s target x y)
-unfolding fork
-fork-ahead i c d s target (Plain a) (Plain b) l = record { leads = l }
-fork-ahead i c d s target (Plain a) (Address q b) l = refusal-ahead i _
-fork-ahead i c d s target (Plain a) (Unusable h) l = refusal-ahead i _
-fork-ahead i c d s target (Address p a) y l = refusal-ahead i _
-fork-ahead i c d s target (Unusable g) y l = refusal-ahead i _
-
-exit-ahead : (i : ℕ) (x : Value) → Ahead i (exit x)
-unfolding exit
-exit-ahead i (Plain a) = record { leads = tt }
-exit-ahead i (Address p a) = refusal-ahead i _
-exit-ahead i (Unusable g) = refusal-ahead i _
-
-pub effects-lead-ahead : (i R : ℕ) (a : Facts) (ins : Instruction) → Ahead i (effect R i a ins)
-unfolding effect
-effects-lead-ahead i R a (Alu w op d s) = arithmetic-ahead i (role w op) (bits w) op d (valueOf a d) (operandOf a s)
-effects-lead-ahead i R a (Neg w d) = reading-ahead i (valueOf a d) _ (calculate-ahead i (bits w) _ d (valueOf a d) (valueOf a d))
-effects-lead-ahead i R a (Jump c d s off) =
-    reading-both-ahead i (valueOf a d) (operandOf a s) _ (fork-ahead i c d s (i + 1 + off) (valueOf a d) (operandOf a s) (omega arith))
-effects-lead-ahead i R a (Always off) = record { leads = let q : i < i + 1 + off = omega arith in q }
-effects-lead-ahead i R a Exit = reading-ahead i (valueOf a 0) _ (exit-ahead i (valueOf a 0))
-effects-lead-ahead i R a (Load z d s off) = reading-ahead i (valueOf a s) _ (load-ahead i R (bytes z) d off (valueOf a s))
-effects-lead-ahead i R a (Store z d off s) =
-    reading-both-ahead i (valueOf a d) (operandOf a s) _ (store-ahead i (bytes z) off (valueOf a d) (operandOf a s))
-effects-lead-ahead i R a NoInstruction = refusal-ahead i _
+    pub a-jump-that-goes-on : (y : Refined) (m′ m″ : List ℕ) (done : ℕ) (r : Step) → y ≡ taken c (u .number) (v .number)
+        → Sent (send n (i + 1) (along (factsAt m (56 * i + 1)) d s x) (waitingIn n m) work) n i (More done) m m′
+        → Sent (send n target (along (factsAt m′ (56 * i + 1)) d s y) (waitingIn n m′) done) n i r m′ m″ → Sent Jumps n i r m m″
+    a-jump-that-goes-on y m′ m″ done r is-y h g =
+        subst (λ p. Sent p n i r m m″) (sym (both-ways y is-y))
+        (a-step-that-goes-on _ _ n i r m m′ m″ done h
+        (subst (λ a. Sent (send n target (along a d s y) (waitingIn n m′) done) n i r m′ m″) (a-step-keeps-its-state _ n i _ m m′ h) g))
 
 -- ---- one index
 
@@ -315,6 +287,25 @@ an-index-that-a-path-reaches program R n i m m′ work r ins e l size mark is do
   where
     a : Facts
     a = factsAt m (56 * i + 1)
+
+module _ (program : List ℕ) (R n i : ℕ) (m m′ : List ℕ) (work : ℕ) (r : Step) (ins : Instruction) (off target : ℕ) (l : i < n) (size : n ≡ length program / 8)
+    (mark : getD m (56 * i) 0 ≡ 1) (is : ins ≡ instruction program i) (leads : target ≡ i + 1 + min off n) where
+  abbrev a : Facts
+  a = factsAt m (56 * i + 1)
+
+  pub a-jump-is-reached : (c : Comparison) (d : ℕ) (s : Operand) → ins ≡ Jump c d s off
+      → Sent (distribute n i (waitingIn n m) (work + 1) (apply a (readingBoth (valueOf a d) (operandOf a s) (fork c d s target (valueOf a d) (operandOf a s))))) n i r m m′
+      → Sent (visit program R i (waitingIn n m) work (waitingIn n m i)) n i r m m′
+  unfolding effect shortened
+  a-jump-is-reached c d s jumps h = an-index-that-a-path-reaches program R n i m m′ work r ins _ l size mark is does h
+    where
+      does : readingBoth (valueOf a d) (operandOf a s) (fork c d s target (valueOf a d) (operandOf a s)) ≡ effect R i a (shortened n ins)
+      does = rw (jumps, leads)
+
+  pub a-way-is-reached : ins ≡ Always off → Sent (send n target (some a) (waitingIn n m) (work + 1)) n i r m m′
+      → Sent (visit program R i (waitingIn n m) work (waitingIn n m i)) n i r m m′
+  unfolding effect shortened distribute apply andThen send
+  a-way-is-reached goes h = an-index-that-a-path-reaches program R n i m m′ work r ins (Goto target) l size mark is (rw (goes, leads)) h
 
 -- ---- a turn of the loop
 

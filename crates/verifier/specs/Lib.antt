@@ -1,4 +1,5 @@
 pub mod Answered
 pub mod Form
-pub mod Permit
+pub mod Inspect
+pub mod Outcome
 pub mod Scratch

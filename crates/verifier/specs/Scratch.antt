@@ -1,7 +1,7 @@
 -- How the facts that wait for each index lie in scratch memory: a block of 56 words an index, a mark and five words a register.
 -- Each is a function from the words to what they stand for, so that no word has to be as it should. Assumes nothing.
 use mathlib.Core.Path.{_≡_}
-use mathlib.Core.Bool.{cond}
+use mathlib.Core.Bool.{cond, _&&_, _||_}
 use mathlib.Core.Logic.{_⊎_}
 use mathlib.Core.List.{List, [], _∷_}
 use mathlib.Core.Option.{none, some}
@@ -15,28 +15,18 @@ use Rattle.analysis.specs.declared.Region.the-variants.{Record, Stack}
 use Rattle.analysis.specs.declared.Gone.the-variants.{Never, Mixed}
 use Rattle.analysis.specs.declared.Value.{Value}
 use Rattle.analysis.specs.declared.Value.the-variants.{Unusable, Plain, Address}
-use Rattle.analysis.specs.declared.Effect.{Effect}
-use Rattle.analysis.specs.declared.Effect.the-variants.{Refuse, Put, Keep, Fork, Goto, Stop}
 use Rattle.analysis.specs.declared.Judged.{Judged}
 use Rattle.analysis.specs.Values.{Facts, startFacts}
-use Rattle.analysis.specs.Judged.{Waiting, nobody, having, arrive, Progress, halted, onward, followed}
+use Rattle.analysis.specs.Judged.{Waiting, nobody, arrive, Progress, halted, onward, followed}
 use Rattle.verifier.specs.declared.Step.{Step}
 use Rattle.verifier.specs.declared.Step.the-variants.{Halt, More}
-use Rattle.verifier.specs.declared.Change.{Change}
-use Rattle.verifier.specs.declared.Change.the-variants.{Same, One, Two}
+use Rattle.verifier.specs.declared.value.Held.{Held}
 
 -- the words that a program of n instructions needs
 unfoldable pub words : ℕ → ℕ
 words n = 56 * n
 
 -- ---- a value: what kind it is, and a Number
-
-unfoldable pub numberAt : List ℕ → ℕ → Number
-numberAt m at =
-    record {
-      bits = record { value = getD m at 0; mask = getD m (at + 1) 0 };
-      range = record { lo = getD m (at + 2) 0; hi = getD m (at + 3) 0 };
-    }
 
 unfoldable pub ofKind : ℕ → Number → Value
 ofKind kind n =
@@ -46,27 +36,34 @@ ofKind kind n =
     (cond (eqb kind 3) (Address Record n)
     (Address Stack n))))
 
--- and back: a value's kind, and the Number that its other words hold
-unfoldable pub kindOf : Value → ℕ
-kindOf (Unusable Never) = 0
-kindOf (Unusable Mixed) = 1
-kindOf (Plain n) = 2
-kindOf (Address Record n) = 3
-kindOf (Address Stack n) = 4
+unfoldable pub heldIn : Held → Value
+heldIn h = ofKind (h .kind) (h .number)
 
-unfoldable pub numberOf : Value → Number
-numberOf (Unusable g) = record { bits = record { value = 0; mask = 0 }; range = record { lo = 0; hi = 0 } }
-numberOf (Plain n) = n
-numberOf (Address p n) = n
+-- the five words at `at`
+unfoldable pub heldAt : List ℕ → ℕ → Held
+heldAt m at =
+    record {
+      kind = getD m at 0;
+      number = record {
+        bits = record { value = getD m (at + 1) 0; mask = getD m (at + 2) 0 };
+        range = record { lo = getD m (at + 3) 0; hi = getD m (at + 4) 0 };
+      };
+    }
 
-unfoldable pub valueAt : List ℕ → ℕ → Value
-valueAt m at = ofKind (getD m at 0) (numberAt m (at + 1))
+-- the kind of what covers two values: unset absorbs mixed, and mixed is what kinds that differ have in common
+unfoldable pub joinedKind : ℕ → ℕ → ℕ
+joinedKind u v =
+    cond (eqb u 0 || eqb v 0) 0
+    (cond (eqb u 1 || eqb v 1) 1
+    (cond (eqb u 2 && eqb v 2) 2
+    (cond (eqb u 3 && eqb v 3) 3
+    (cond (ltb 3 u && ltb 3 v) 4 1))))
 
 -- ---- a state: eleven values
 
 unfoldable pub valuesAt : ℕ → List ℕ → ℕ → List Value
 valuesAt zero m at = []
-valuesAt (suc k) m at = valueAt m at ∷ valuesAt k m (at + 5)
+valuesAt (suc k) m at = heldIn (heldAt m at) ∷ valuesAt k m (at + 5)
 
 unfoldable pub factsAt : List ℕ → ℕ → Facts
 factsAt m at = record { registers = valuesAt 11 m at }
@@ -76,20 +73,26 @@ factsAt m at = record { registers = valuesAt 11 m at }
 unfoldable pub waitingIn : ℕ → List ℕ → Waiting
 waitingIn n m j = cond (ltb j n) (cond (eqb (getD m (56 * j) 0) 1) (some (factsAt m (56 * j + 1))) none) none
 
--- ---- a state with a change
-
-unfoldable pub changed : Facts → Change → Facts
-changed a Same = a
-changed a (One d v) = having a d v
-changed a (Two d v e w) = having (having a d v) e w
-
 -- ---- what routines on scratch memory do: m before, m′ after
 
--- five words at `at` hold the value v, and the others are as they were
-pub record Wrote (m m′ : List ℕ) (at : ℕ) (v : Value) : Type 0 where
+-- the five words at `at` are h, and the others are as they were
+pub record Wrote (m m′ : List ℕ) (at : ℕ) (h : Held) : Type 0 where
   pub size : length m′ ≡ length m
-  pub held : valueAt m′ at ≡ v
+  pub held : heldAt m′ at ≡ h
   pub others : (i : ℕ) → (i < at) ⊎ (at + 5 ≤ i) → getD m′ i 0 ≡ getD m i 0
+
+-- they hold the value v, and the others are as they were
+pub record Holds (m m′ : List ℕ) (at : ℕ) (v : Value) : Type 0 where
+  pub size : length m′ ≡ length m
+  pub held : heldIn (heldAt m′ at) ≡ v
+  pub others : (i : ℕ) → (i < at) ⊎ (at + 5 ≤ i) → getD m′ i 0 ≡ getD m i 0
+
+-- the words of register d of the state at `at` are h, and the others are as they were; there is no register from 11 on
+pub record Changed (m m′ : List ℕ) (at d : ℕ) (h : Held) : Type 0 where
+  pub size : length m′ ≡ length m
+  pub held : d < 11 → heldAt m′ (at + 5 * d) ≡ h
+  pub others : (i : ℕ) → (i < at + 5 * d) ⊎ (at + 5 * d + 5 ≤ i) → getD m′ i 0 ≡ getD m i 0
+  pub outside : 11 ≤ d → m′ ≡ m
 
 -- the 55 words at `at` hold the facts a, and the others are as they were
 pub record Stored (m m′ : List ℕ) (at : ℕ) (a : Facts) : Type 0 where
@@ -137,18 +140,6 @@ shortened n Exit = Exit
 shortened n (Load z d s off) = Load z d s off
 shortened n (Store z d off s) = Store z d off s
 shortened n NoInstruction = NoInstruction
-
--- what an effect leads to lies after index i
-abbrev pub Leads : ℕ → Effect → Type 0
-Leads i (Refuse reason) = Unit {0}
-Leads i (Put d v) = Unit {0}
-Leads i Keep = Unit {0}
-Leads i (Fork d s o t target) = i < target
-Leads i (Goto target) = i < target
-Leads i Stop = Unit {0}
-
-pub record Ahead (i : ℕ) (e : Effect) : Type 0 where
-  pub leads : Leads i e
 
 -- an answer that goes on says no less of the words up to the block of index i, and of that block: they are as they were
 pub record Sent (progress : Progress) (n i : ℕ) (r : Step) (m m′ : List ℕ) : Type 0 where

@@ -1,22 +1,23 @@
-// What an instruction does to the state at a place of scratch memory: one register is read at a time, and none is copied.
+// What an instruction that is no jump does to the state at a place of scratch memory: one register is read at a time, and none is copied.
 // Assumes nothing.
 ghost use mathlib.Core.Path.{_≡_};
-ghost use Prim.Native.Nat.{_+_, _*_, _-_, _^_, _≤_, _<_, min};
+ghost use mathlib.Core.Bool.{cond};
+ghost use Prim.Native.Nat.{ℕ, _+_, _*_, _-_, _^_, _≤_};
 ghost use lib.ListN.{length};
+ghost use lib.Dec.{eqb};
+ghost use Rattle.number.specs.Computed as number;
+ghost use Rattle.number.specs.Sharpen.{exact};
 ghost use Rattle.machine.specs.Machine as machine;
 ghost use Rattle.analysis.specs.Effects as defined;
 ghost use Rattle.analysis.specs.Values.{valueOf, operandOf};
-ghost use Rattle.verifier.specs.Scratch.{factsAt, shortened};
+ghost use Rattle.verifier.specs.Scratch.{heldIn, factsAt};
+ghost use Rattle.verifier.specs.Outcome as outcome;
+ghost use Rattle.verifier.specs.Outcome.{effectIn, reasonOf};
 use crate::scratch::register;
-use crate::value::Permit;
-use crate::value::reading;
-use crate::value::reading_both;
+use crate::value::Held;
+use crate::value::plain;
 use analysis::Effect;
-use analysis::Reason;
-use analysis::Region;
 use analysis::Value;
-use calculator::compare::not_taken;
-use calculator::compare::taken;
 use calculator::operation::alu32;
 use calculator::operation::alu64;
 use calculator::sharpen::exactly;
@@ -26,237 +27,201 @@ use machine::instruction::Instruction;
 use machine::instruction::Operand;
 use machine::instruction::Size;
 use machine::instruction::Width;
-use word::Comparison;
+use number::Number;
 use word::Operation;
 
-fn operand_value(m: &[u64], at: usize, s: Operand) -> Value
+// Code 0 puts held into dst, 1 keeps the state, 2 stops, and any other is a reason's number.
+pub struct Outcome {
+    pub code: u64,
+    pub dst: u64,
+    pub held: Held,
+}
+
+pub fn operand_held(m: &[u64], at: usize, s: Operand) -> Held
     requires { ⌜ at + 55 ≤ length (now m) ⌝ }
-    ensures { λ r. ⌜ r ≡ operandOf (factsAt (now (m .entry)) at) s ⌝ }
+    ensures { λ r. ⌜ heldIn r ≡ operandOf (factsAt (now (m .entry)) at) s ⌝ }
 {
     match s {
-        Operand::Immediate(n) => Value::Plain(exactly(n)),
+        Operand::Immediate(n) => plain(exactly(n)),
         Operand::Register(r) => register(m, at, r),
     }
 }
 
-fn put(d: u64, v: Value) -> Effect
-    ensures { λ r. ⌜ r ≡ defined.put d v ⌝ }
+fn refuse(code: u64) -> Outcome
+    requires { ⌜ 3 ≤ code ⌝ }
+    ensures { λ r. ⌜ effectIn r ≡ Effect.Refuse (reasonOf code) ⌝ }
+{
+    Outcome {
+        code,
+        dst: 0,
+        held: plain(exactly(0)),
+    }
+}
+
+fn put(d: u64, h: Held) -> Outcome
+    ensures { λ r. ⌜ effectIn r ≡ defined.put d (heldIn h) ⌝ }
 {
     if d == 10 {
-        return Effect::Refuse(Reason::WritesR10);
+        return refuse(4);
     }
-    Effect::Put { dst: d, value: v }
+    Outcome {
+        code: 0,
+        dst: d,
+        held: h,
+    }
 }
 
-fn calculate64(op: Operation, d: u64, x: Value, y: Value) -> Effect
-    ensures { λ r. ⌜ r ≡ defined.calculate 64 op d x y ⌝ }
+pub fn unusable(x: u64, y: u64) -> u64
+    ensures { λ r. ⌜ r ≡ outcome.unusable x y ⌝ }
 {
-    match x {
-        Value::Plain(a) => match y {
-            Value::Plain(b) => put(d, Value::Plain(alu64(op, a, b))),
-            Value::Unusable(_) => Effect::Refuse(Reason::LeaksAddress),
-            Value::Address(_, _) => Effect::Refuse(Reason::LeaksAddress),
-        },
-        Value::Unusable(_) => Effect::Refuse(Reason::LeaksAddress),
-        Value::Address(_, _) => Effect::Refuse(Reason::LeaksAddress),
+    if (x == 0) | (y == 0) {
+        return 7;
     }
+    9
 }
 
-fn calculate32(op: Operation, d: u64, x: Value, y: Value) -> Effect
-    ensures { λ r. ⌜ r ≡ defined.calculate 32 op d x y ⌝ }
+// Values of these kinds may not be used.
+fn refuse_kinds(x: u64, y: u64) -> Outcome
+    ensures { λ r. ⌜ effectIn r ≡ Effect.Refuse (reasonOf (outcome.unusable x y)) ⌝ }
 {
-    match x {
-        Value::Plain(a) => match y {
-            Value::Plain(b) => put(d, Value::Plain(alu32(op, a, b))),
-            Value::Unusable(_) => Effect::Refuse(Reason::LeaksAddress),
-            Value::Address(_, _) => Effect::Refuse(Reason::LeaksAddress),
-        },
-        Value::Unusable(_) => Effect::Refuse(Reason::LeaksAddress),
-        Value::Address(_, _) => Effect::Refuse(Reason::LeaksAddress),
-    }
+    refuse(unusable(x, y))
 }
 
-fn sum(d: u64, x: Value, y: Value) -> Effect
-    ensures { λ r. ⌜ r ≡ defined.sum d x y ⌝ }
+fn copied(d: u64, y: Held) -> Outcome
+    ensures { λ r. ⌜ effectIn r ≡ defined.reading (heldIn y) (defined.put d (heldIn y)) ⌝ }
 {
-    match x {
-        Value::Plain(a) => match y {
-            Value::Plain(b) => put(d, Value::Plain(alu64(Operation::Add, a, b))),
-            Value::Address(q, b) => put(d, Value::Address(q, alu64(Operation::Add, b, a))),
-            Value::Unusable(_) => Effect::Refuse(Reason::LeaksAddress),
-        },
-        Value::Address(p, a) => match y {
-            Value::Plain(b) => put(d, Value::Address(p, alu64(Operation::Add, a, b))),
-            Value::Address(_, _) => Effect::Refuse(Reason::LeaksAddress),
-            Value::Unusable(_) => Effect::Refuse(Reason::LeaksAddress),
-        },
-        Value::Unusable(_) => Effect::Refuse(Reason::LeaksAddress),
+    if y.kind < 2 {
+        return refuse_kinds(y.kind, y.kind);
     }
+    put(d, y)
 }
 
-fn difference(d: u64, x: Value, y: Value) -> Effect
-    ensures { λ r. ⌜ r ≡ defined.difference d x y ⌝ }
+fn calculated32(op: Operation, d: u64, x: Held, y: Held) -> Outcome
+    ensures { λ r. ⌜ effectIn r ≡ defined.readingBoth (heldIn x) (heldIn y) (defined.calculate 32 op d (heldIn x) (heldIn y)) ⌝ }
 {
-    match x {
-        Value::Plain(a) => match y {
-            Value::Plain(b) => put(d, Value::Plain(alu64(Operation::Sub, a, b))),
-            Value::Address(_, _) => Effect::Refuse(Reason::LeaksAddress),
-            Value::Unusable(_) => Effect::Refuse(Reason::LeaksAddress),
-        },
-        Value::Address(p, a) => match y {
-            Value::Plain(b) => put(d, Value::Address(p, alu64(Operation::Sub, a, b))),
-            Value::Address(_, _) => Effect::Refuse(Reason::LeaksAddress),
-            Value::Unusable(_) => Effect::Refuse(Reason::LeaksAddress),
-        },
-        Value::Unusable(_) => Effect::Refuse(Reason::LeaksAddress),
+    if (x.kind == 2) & (y.kind == 2) {
+        return put(d, plain(alu32(op, x.number, y.number)));
     }
+    refuse_kinds(x.kind, y.kind)
 }
 
-// The operations, with the first operand in register d. MOV does not read it.
-fn copied(d: u64, y: Value) -> Effect
-    ensures { λ r. ⌜ r ≡ defined.reading y (defined.put d y) ⌝ }
-{
-    let permit = reading(y);
-    match permit {
-        Permit::Allowed => put(d, y),
-        Permit::Forbidden(reason) => Effect::Refuse(reason),
-    }
-}
-
-fn converted(d: u64, y: Value) -> Effect
-    ensures { λ r. ⌜ r ≡ defined.reading y (defined.calculate 32 Operation.Mov d y y) ⌝ }
-{
-    let permit = reading(y);
-    match permit {
-        Permit::Allowed => calculate32(Operation::Mov, d, y, y),
-        Permit::Forbidden(reason) => Effect::Refuse(reason),
-    }
-}
-
-fn added(m: &[u64], at: usize, d: u64, y: Value) -> Effect
-    requires { ⌜ at + 55 ≤ length (now m) ⌝ }
-    ensures { λ r. ⌜ r ≡ defined.readingBoth (valueOf (factsAt (now (m .entry)) at) d) y (defined.sum d (valueOf (factsAt (now (m .entry)) at) d) y) ⌝ }
-{
-    let x = register(m, at, d);
-    let permit = reading_both(x, y);
-    match permit {
-        Permit::Allowed => sum(d, x, y),
-        Permit::Forbidden(reason) => Effect::Refuse(reason),
-    }
-}
-
-fn subtracted(m: &[u64], at: usize, d: u64, y: Value) -> Effect
-    requires { ⌜ at + 55 ≤ length (now m) ⌝ }
-    ensures { λ r. ⌜ r ≡ defined.readingBoth (valueOf (factsAt (now (m .entry)) at) d) y (defined.difference d (valueOf (factsAt (now (m .entry)) at) d) y) ⌝ }
-{
-    let x = register(m, at, d);
-    let permit = reading_both(x, y);
-    match permit {
-        Permit::Allowed => difference(d, x, y),
-        Permit::Forbidden(reason) => Effect::Refuse(reason),
-    }
-}
-
-fn calculated64(m: &[u64], at: usize, op: Operation, d: u64, y: Value) -> Effect
-    requires { ⌜ at + 55 ≤ length (now m) ⌝ }
-    ensures { λ r. ⌜ r ≡ defined.readingBoth (valueOf (factsAt (now (m .entry)) at) d) y (defined.calculate 64 op d (valueOf (factsAt (now (m .entry)) at) d) y) ⌝ }
-{
-    let x = register(m, at, d);
-    let permit = reading_both(x, y);
-    match permit {
-        Permit::Allowed => calculate64(op, d, x, y),
-        Permit::Forbidden(reason) => Effect::Refuse(reason),
-    }
-}
-
-fn calculated32(m: &[u64], at: usize, op: Operation, d: u64, y: Value) -> Effect
-    requires { ⌜ at + 55 ≤ length (now m) ⌝ }
-    ensures { λ r. ⌜ r ≡ defined.readingBoth (valueOf (factsAt (now (m .entry)) at) d) y (defined.calculate 32 op d (valueOf (factsAt (now (m .entry)) at) d) y) ⌝ }
-{
-    let x = register(m, at, d);
-    let permit = reading_both(x, y);
-    match permit {
-        Permit::Allowed => calculate32(op, d, x, y),
-        Permit::Forbidden(reason) => Effect::Refuse(reason),
-    }
-}
-
-fn arithmetic64(m: &[u64], at: usize, op: Operation, d: u64, y: Value) -> Effect
-    requires { ⌜ at + 55 ≤ length (now m) ⌝ }
-    ensures { λ r. ⌜ r ≡ defined.arithmetic (defined.role Width.Long op) 64 op d (valueOf (factsAt (now (m .entry)) at) d) y ⌝ }
+fn moved_kind(op: Operation, x: u64, y: u64) -> u64
+    ensures { λ r. ⌜ r ≡ outcome.movedKind (defined.role Width.Long op) x y ⌝ }
 {
     match op {
-        Operation::Add => added(m, at, d, y),
-        Operation::Sub => subtracted(m, at, d, y),
-        Operation::Mul => calculated64(m, at, op, d, y),
-        Operation::Div => calculated64(m, at, op, d, y),
-        Operation::Or => calculated64(m, at, op, d, y),
-        Operation::And => calculated64(m, at, op, d, y),
-        Operation::Lsh => calculated64(m, at, op, d, y),
-        Operation::Rsh => calculated64(m, at, op, d, y),
-        Operation::Neg => calculated64(m, at, op, d, y),
-        Operation::Mod => calculated64(m, at, op, d, y),
-        Operation::Xor => calculated64(m, at, op, d, y),
-        Operation::Mov => copied(d, y),
-        Operation::Arsh => calculated64(m, at, op, d, y),
+        Operation::Add => {
+            if y == 2 {
+                return x;
+            }
+            if x == 2 {
+                return y;
+            }
+            1
+        }
+        Operation::Sub => {
+            if y == 2 {
+                return x;
+            }
+            1
+        }
+        _ => 1,
     }
 }
 
-fn arithmetic32(m: &[u64], at: usize, op: Operation, d: u64, y: Value) -> Effect
-    requires { ⌜ at + 55 ≤ length (now m) ⌝ }
-    ensures { λ r. ⌜ r ≡ defined.arithmetic (defined.role Width.Short op) 32 op d (valueOf (factsAt (now (m .entry)) at) d) y ⌝ }
+fn result_kind(op: Operation, x: u64, y: u64) -> u64
+    ensures { λ r. ⌜ r ≡ outcome.resultKind (defined.role Width.Long op) x y ⌝ }
 {
-    match op {
-        Operation::Add => calculated32(m, at, op, d, y),
-        Operation::Sub => calculated32(m, at, op, d, y),
-        Operation::Mul => calculated32(m, at, op, d, y),
-        Operation::Div => calculated32(m, at, op, d, y),
-        Operation::Or => calculated32(m, at, op, d, y),
-        Operation::And => calculated32(m, at, op, d, y),
-        Operation::Lsh => calculated32(m, at, op, d, y),
-        Operation::Rsh => calculated32(m, at, op, d, y),
-        Operation::Neg => calculated32(m, at, op, d, y),
-        Operation::Mod => calculated32(m, at, op, d, y),
-        Operation::Xor => calculated32(m, at, op, d, y),
-        Operation::Mov => converted(d, y),
-        Operation::Arsh => calculated32(m, at, op, d, y),
+    if (x == 2) & (y == 2) {
+        return 2;
     }
+    if (x == 0) | (y == 0) {
+        return 0;
+    }
+    if (x == 1) | (y == 1) {
+        return 1;
+    }
+    moved_kind(op, x, y)
 }
 
-fn arithmetic(m: &[u64], at: usize, width: Width, op: Operation, d: u64, s: Operand) -> Effect
-    requires { ⌜ at + 55 ≤ length (now m) ⌝ }
-    ensures { λ r. ⌜ r ≡ defined.arithmetic (defined.role width op) (machine.bits width) op d (valueOf (factsAt (now (m .entry)) at) d) (operandOf (factsAt (now (m .entry)) at) s) ⌝ }
+// Any operation but MOV.
+fn calculated64(op: Operation, d: u64, x: Held, y: Held) -> Outcome
+    requires { ⌜ (op ≡ Operation.Mov → ⊥) ⌝ }
+    ensures { λ r. ⌜ effectIn r ≡ defined.arithmetic (defined.role Width.Long op) 64 op d (heldIn x) (heldIn y) ⌝ }
 {
-    let y = operand_value(m, at, s);
+    let kind = result_kind(op, x.kind, y.kind);
+    if kind < 2 {
+        return refuse_kinds(kind, kind);
+    }
+    if y.kind != 2 {
+        return put(
+            d,
+            Held {
+                kind,
+                number: alu64(op, y.number, x.number),
+            },
+        );
+    }
+    put(
+        d,
+        Held {
+            kind,
+            number: alu64(op, x.number, y.number),
+        },
+    )
+}
+
+fn calculated(width: Width, op: Operation, d: u64, x: Held, y: Held) -> Outcome
+    requires { ⌜ (op ≡ Operation.Mov → ⊥) ⌝ }
+    ensures { λ r. ⌜ effectIn r ≡ defined.arithmetic (defined.role width op) (machine.bits width) op d (heldIn x) (heldIn y) ⌝ }
+{
     match width {
-        Width::Long => arithmetic64(m, at, op, d, y),
-        Width::Short => arithmetic32(m, at, op, d, y),
+        Width::Long => calculated64(op, d, x, y),
+        Width::Short => calculated32(op, d, x, y),
     }
 }
 
-fn negated(m: &[u64], at: usize, width: Width, d: u64) -> Effect
+// MOV does not read dst.
+fn moved(width: Width, d: u64, y: Held) -> Outcome
+    ensures { λ r. ⌜ ((x : Value) → effectIn r ≡ defined.arithmetic (defined.role width Operation.Mov) (machine.bits width) Operation.Mov d x (heldIn y)) ⌝ }
+{
+    match width {
+        Width::Long => copied(d, y),
+        Width::Short => calculated32(Operation::Mov, d, y, y),
+    }
+}
+
+fn arithmetic(m: &[u64], at: usize, width: Width, op: Operation, d: u64, s: Operand) -> Outcome
     requires { ⌜ at + 55 ≤ length (now m) ⌝ }
-    ensures { λ r. ⌜ r ≡ defined.reading (valueOf (factsAt (now (m .entry)) at) d)
-        (defined.calculate (machine.bits width) Operation.Neg d (valueOf (factsAt (now (m .entry)) at) d) (valueOf (factsAt (now (m .entry)) at) d)) ⌝ }
+    ensures { λ r. ⌜ effectIn r ≡ defined.arithmetic (defined.role width op) (machine.bits width) op d (valueOf (factsAt (now (m .entry)) at) d) (operandOf (factsAt (now (m .entry)) at) s) ⌝ }
 {
-    let x = register(m, at, d);
-    let permit = reading(x);
-    match permit {
-        Permit::Allowed => match width {
-            Width::Long => calculate64(Operation::Neg, d, x, x),
-            Width::Short => calculate32(Operation::Neg, d, x, x),
-        },
-        Permit::Forbidden(reason) => Effect::Refuse(reason),
+    let y = operand_held(m, at, s);
+    match op {
+        Operation::Mov => moved(width, d, y),
+        _ => calculated(width, op, d, register(m, at, d), y),
     }
 }
 
-fn limit(rlen: u64, p: Region) -> u64
-    ensures { λ r. ⌜ r ≡ defined.limit rlen p ⌝ }
+fn negated(width: Width, d: u64, x: Held) -> Outcome
+    ensures { λ r. ⌜ effectIn r ≡ defined.reading (heldIn x) (defined.calculate (machine.bits width) Operation.Neg d (heldIn x) (heldIn x)) ⌝ }
 {
-    match p {
-        Region::Record => rlen,
-        Region::Stack => 512,
+    match width {
+        Width::Long => {
+            if x.kind == 2 {
+                return put(d, plain(alu64(Operation::Neg, x.number, x.number)));
+            }
+            refuse_kinds(x.kind, x.kind)
+        }
+        Width::Short => calculated32(Operation::Neg, d, x, x),
     }
+}
+
+fn limit(rlen: u64, kind: u64) -> u64
+    ensures { λ r. ⌜ r ≡ cond (eqb kind 3) rlen 512 ⌝ }
+{
+    if kind == 3 {
+        return rlen;
+    }
+    512
 }
 
 fn bytes(size: Size) -> u64
@@ -282,154 +247,64 @@ fn last(size: Size) -> u64
     }
 }
 
-fn load_from(rlen: u64, size: Size, d: u64, off: u64, x: Value) -> Effect
-    ensures { λ r. ⌜ r ≡ defined.load rlen (machine.bytes size) d off x ⌝ }
+// The bytes at an offset from an address lie below `end`.
+fn inside(a: Number, off: u64, size: Size, end: u64) -> bool
+    ensures { λ r. ⌜ r ≡ number.fits (number.computed 64 Operation.Add a (exact off)) (machine.bytes size) end ⌝ }
 {
-    match x {
-        Value::Address(p, a) => {
-            if fits(
-                alu64(Operation::Add, a, exactly(off)),
-                bytes(size),
-                limit(rlen, p),
-            ) {
-                return put(d, Value::Plain(load(last(size))));
-            }
-            Effect::Refuse(Reason::Outside)
-        }
-        Value::Plain(_) => Effect::Refuse(Reason::Outside),
-        Value::Unusable(_) => Effect::Refuse(Reason::Outside),
-    }
+    fits(alu64(Operation::Add, a, exactly(off)), bytes(size), end)
 }
 
-fn loaded(m: &[u64], at: usize, rlen: u64, size: Size, d: u64, s: u64, off: u64) -> Effect
+fn loaded(rlen: u64, size: Size, d: u64, off: u64, x: Held) -> Outcome
+    ensures { λ r. ⌜ effectIn r ≡ defined.reading (heldIn x) (defined.load rlen (machine.bytes size) d off (heldIn x)) ⌝ }
+{
+    if x.kind < 2 {
+        return refuse_kinds(x.kind, x.kind);
+    }
+    if x.kind == 2 {
+        return refuse(8);
+    }
+    if inside(x.number, off, size, limit(rlen, x.kind)) {
+        return put(d, plain(load(last(size))));
+    }
+    refuse(8)
+}
+
+fn stored(size: Size, off: u64, x: Held, y: Held) -> Outcome
+    ensures { λ r. ⌜ effectIn r ≡ defined.readingBoth (heldIn x) (heldIn y) (defined.store (machine.bytes size) off (heldIn x) (heldIn y)) ⌝ }
+{
+    if (y.kind != 2) | (x.kind < 2) {
+        return refuse_kinds(x.kind, y.kind);
+    }
+    if x.kind < 4 {
+        return refuse(8);
+    }
+    if inside(x.number, off, size, 512) {
+        return Outcome {
+            code: 1,
+            dst: 0,
+            held: x,
+        };
+    }
+    refuse(8)
+}
+
+fn exited(x: Held) -> Outcome
+    ensures { λ r. ⌜ effectIn r ≡ defined.reading (heldIn x) (defined.exit (heldIn x)) ⌝ }
+{
+    if x.kind == 2 {
+        return Outcome {
+            code: 2,
+            dst: 0,
+            held: x,
+        };
+    }
+    refuse_kinds(x.kind, x.kind)
+}
+
+// What an instruction does to the state at `at`; a jump counts as none.
+pub fn outcome_of(m: &[u64], at: usize, rlen: u64, ins: Instruction) -> Outcome
     requires { ⌜ at + 55 ≤ length (now m) ⌝ }
-    ensures { λ r. ⌜ r ≡ defined.reading (valueOf (factsAt (now (m .entry)) at) s) (defined.load rlen (machine.bytes size) d off (valueOf (factsAt (now (m .entry)) at) s)) ⌝ }
-{
-    let x = register(m, at, s);
-    let permit = reading(x);
-    match permit {
-        Permit::Allowed => load_from(rlen, size, d, off, x),
-        Permit::Forbidden(reason) => Effect::Refuse(reason),
-    }
-}
-
-fn store_at(size: Size, off: u64, x: Value) -> Effect
-    ensures { λ r. ⌜ r ≡ defined.storeAt (machine.bytes size) off x ⌝ }
-{
-    match x {
-        Value::Address(p, a) => match p {
-            Region::Stack => {
-                if fits(alu64(Operation::Add, a, exactly(off)), bytes(size), 512) {
-                    return Effect::Keep;
-                }
-                Effect::Refuse(Reason::Outside)
-            }
-            Region::Record => Effect::Refuse(Reason::Outside),
-        },
-        Value::Plain(_) => Effect::Refuse(Reason::Outside),
-        Value::Unusable(_) => Effect::Refuse(Reason::Outside),
-    }
-}
-
-fn store(size: Size, off: u64, x: Value, y: Value) -> Effect
-    ensures { λ r. ⌜ r ≡ defined.store (machine.bytes size) off x y ⌝ }
-{
-    match y {
-        Value::Plain(_) => store_at(size, off, x),
-        Value::Address(_, _) => Effect::Refuse(Reason::LeaksAddress),
-        Value::Unusable(_) => Effect::Refuse(Reason::LeaksAddress),
-    }
-}
-
-fn stored(m: &[u64], at: usize, size: Size, d: u64, off: u64, s: Operand) -> Effect
-    requires { ⌜ at + 55 ≤ length (now m) ⌝ }
-    ensures { λ r. ⌜ r ≡ defined.readingBoth (valueOf (factsAt (now (m .entry)) at) d) (operandOf (factsAt (now (m .entry)) at) s)
-        (defined.store (machine.bytes size) off (valueOf (factsAt (now (m .entry)) at) d) (operandOf (factsAt (now (m .entry)) at) s)) ⌝ }
-{
-    let x = register(m, at, d);
-    let y = operand_value(m, at, s);
-    let permit = reading_both(x, y);
-    match permit {
-        Permit::Allowed => store(size, off, x, y),
-        Permit::Forbidden(reason) => Effect::Refuse(reason),
-    }
-}
-
-fn fork(c: Comparison, d: u64, s: Operand, target: u64, x: Value, y: Value) -> Effect
-    ensures { λ r. ⌜ r ≡ defined.fork c d s target x y ⌝ }
-{
-    match x {
-        Value::Plain(a) => match y {
-            Value::Plain(b) => {
-                let onward = not_taken(c, a, b);
-                let there = taken(c, a, b);
-                Effect::Fork {
-                    dst: d,
-                    operand: s,
-                    onward,
-                    taken: there,
-                    target,
-                }
-            }
-            Value::Address(_, _) => Effect::Refuse(Reason::LeaksAddress),
-            Value::Unusable(_) => Effect::Refuse(Reason::LeaksAddress),
-        },
-        Value::Address(_, _) => Effect::Refuse(Reason::LeaksAddress),
-        Value::Unusable(_) => Effect::Refuse(Reason::LeaksAddress),
-    }
-}
-
-fn forked(m: &[u64], at: usize, c: Comparison, d: u64, s: Operand, target: u64) -> Effect
-    requires { ⌜ at + 55 ≤ length (now m) ⌝ }
-    ensures { λ r. ⌜ r ≡ defined.readingBoth (valueOf (factsAt (now (m .entry)) at) d) (operandOf (factsAt (now (m .entry)) at) s)
-        (defined.fork c d s target (valueOf (factsAt (now (m .entry)) at) d) (operandOf (factsAt (now (m .entry)) at) s)) ⌝ }
-{
-    let x = register(m, at, d);
-    let y = operand_value(m, at, s);
-    let permit = reading_both(x, y);
-    match permit {
-        Permit::Allowed => fork(c, d, s, target, x, y),
-        Permit::Forbidden(reason) => Effect::Refuse(reason),
-    }
-}
-
-fn exit(x: Value) -> Effect
-    ensures { λ r. ⌜ r ≡ defined.exit x ⌝ }
-{
-    match x {
-        Value::Plain(_) => Effect::Stop,
-        Value::Address(_, _) => Effect::Refuse(Reason::LeaksAddress),
-        Value::Unusable(_) => Effect::Refuse(Reason::LeaksAddress),
-    }
-}
-
-fn exited(m: &[u64], at: usize) -> Effect
-    requires { ⌜ at + 55 ≤ length (now m) ⌝ }
-    ensures { λ r. ⌜ r ≡ defined.reading (valueOf (factsAt (now (m .entry)) at) 0) (defined.exit (valueOf (factsAt (now (m .entry)) at) 0)) ⌝ }
-{
-    let x = register(m, at, 0);
-    let permit = reading(x);
-    match permit {
-        Permit::Allowed => exit(x),
-        Permit::Forbidden(reason) => Effect::Refuse(reason),
-    }
-}
-
-// A jump by more than the program's length leads out of it, as one by its length does.
-fn target(n: u64, i: u64, off: u64) -> u64
-    requires { ⌜ (i < 4096) × (n ≤ 4096) ⌝ }
-    ensures { λ r. ⌜ r ≡ i + 1 + min off n ⌝ }
-{
-    if n <= off {
-        return i + 1 + n;
-    }
-    i + 1 + off
-}
-
-// What an instruction at index i of n does to the state at `at`.
-pub fn effect_of(m: &[u64], at: usize, rlen: u64, n: u64, i: u64, ins: Instruction) -> Effect
-    requires { ⌜ (at + 55 ≤ length (now m)) × (i < 4096) × (n ≤ 4096) ⌝ }
-    ensures { λ r. ⌜ r ≡ defined.effect rlen i (factsAt (now (m .entry)) at) (shortened n ins) ⌝ }
+    ensures { λ r. ⌜ ((i : ℕ) → effectIn r ≡ defined.effect rlen i (factsAt (now (m .entry)) at) (outcome.withoutJumps ins)) ⌝ }
 {
     match ins {
         Instruction::Alu {
@@ -438,29 +313,25 @@ pub fn effect_of(m: &[u64], at: usize, rlen: u64, n: u64, i: u64, ins: Instructi
             dst,
             operand,
         } => arithmetic(m, at, width, operation, dst, operand),
-        Instruction::Neg { width, dst } => negated(m, at, width, dst),
-        Instruction::Jump {
-            comparison,
-            dst,
-            operand,
-            off,
-        } => forked(m, at, comparison, dst, operand, target(n, i, off)),
-        Instruction::Always { off } => Effect::Goto {
-            target: target(n, i, off),
-        },
-        Instruction::Exit => exited(m, at),
+        Instruction::Neg { width, dst } => negated(width, dst, register(m, at, dst)),
+        Instruction::Exit => exited(register(m, at, 0)),
         Instruction::Load {
             size,
             dst,
             src,
             off,
-        } => loaded(m, at, rlen, size, dst, src, off),
+        } => loaded(rlen, size, dst, off, register(m, at, src)),
         Instruction::Store {
             size,
             dst,
             off,
             operand,
-        } => stored(m, at, size, dst, off, operand),
-        Instruction::NoInstruction => Effect::Refuse(Reason::NoCode),
+        } => stored(
+            size,
+            off,
+            register(m, at, dst),
+            operand_held(m, at, operand),
+        ),
+        _ => refuse(3),
     }
 }

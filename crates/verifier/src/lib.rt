@@ -2,6 +2,7 @@
 // answer that is defined, and an accepted program is safe. Assumes nothing.
 mod effect;
 mod form;
+pub mod inspect;
 mod pass;
 mod scratch;
 mod send;
@@ -10,7 +11,6 @@ pub mod verify;
 
 use analysis::Judged;
 use analysis::Reason;
-use analysis::Value;
 
 pub enum Answer {
     Judgement(Judged),
@@ -21,19 +21,4 @@ pub enum Answer {
 pub enum Step {
     Halt { reason: Reason, work: u64 },
     More { work: u64 },
-}
-
-// What a state that is sent has that the state it comes from has not: nothing, one value, or two.
-pub enum Change {
-    Same,
-    One {
-        dst: u64,
-        value: Value,
-    },
-    Two {
-        dst: u64,
-        value: Value,
-        src: u64,
-        second: Value,
-    },
 }

@@ -1,18 +1,32 @@
 // The pass that follows the values: each index once, after all that comes there.
 // Assumes nothing.
 ghost use mathlib.Core.Path.{_≡_};
-ghost use Prim.Native.Nat.{_+_, _*_, _/_, _≤_, _<_};
+ghost use Prim.Native.Nat.{_+_, _*_, _/_, _≤_, _<_, min};
 ghost use lib.ListN.{length};
 ghost use Rattle.analysis.specs.Judged as defined;
 ghost use Rattle.verifier.specs.Scratch.{waitingIn, Sent, Followed, Begun};
 use crate::Step;
-use crate::effect::effect_of;
+use crate::effect::outcome_of;
 use crate::scratch::clear;
 use crate::scratch::write_start;
-use crate::send::distribute;
+use crate::send::jump;
+use crate::send::proceed;
+use crate::send::send;
 use analysis::Finding;
 use analysis::Judged;
+use machine::instruction::Instruction;
 use machine::instruction::decode;
+
+// A jump by more than the program's length leads out of it, as one by its length does.
+pub fn target(n: u64, i: u64, off: u64) -> u64
+    requires { ⌜ (i < 4096) × (n ≤ 4096) ⌝ }
+    ensures { λ r. ⌜ r ≡ i + 1 + min off n ⌝ }
+{
+    if n <= off {
+        return i + 1 + n;
+    }
+    i + 1 + off
+}
 
 fn visit(program: &[u8], n: usize, rlen: u64, m: &mut [u64], i: usize, work: u64) -> Step
     requires { ⌜ (i < n) × (n ≤ 4096) × (n ≡ length (now program) / 8) × (56 * n ≤ length (now m)) × (work < 1000000) ⌝ }
@@ -24,8 +38,28 @@ fn visit(program: &[u8], n: usize, rlen: u64, m: &mut [u64], i: usize, work: u64
         return Step::More { work };
     }
     let ins = decode(program, i * 8);
-    let e = effect_of(m, place + 1, rlen, n as u64, i as u64, ins);
-    distribute(m, n, i, e, work + 1)
+    match ins {
+        Instruction::Jump {
+            comparison,
+            dst,
+            operand,
+            off,
+        } => jump(
+            m,
+            n,
+            i,
+            comparison,
+            dst,
+            operand,
+            target(n as u64, i as u64, off),
+            work + 1,
+        ),
+        Instruction::Always { off } => { send(m, n, i, target(n as u64, i as u64, off), work + 1) }
+        _ => {
+            let o = outcome_of(m, place + 1, rlen, ins);
+            proceed(m, n, i, o, work + 1)
+        }
+    }
 }
 
 // The start waits at index 0, and nothing elsewhere.

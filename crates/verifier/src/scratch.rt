@@ -1,84 +1,73 @@
 // Values and states in scratch memory: read, written, copied.
 // Assumes nothing.
 ghost use mathlib.Core.Path.{_≡_};
-ghost use Prim.Native.Nat.{_+_, _*_, _≤_};
+ghost use Prim.Native.Nat.{_+_, _*_, _≤_, _<_};
 ghost use lib.ListN.{length};
-ghost use Rattle.analysis.specs.Judged.{having};
 ghost use Rattle.analysis.specs.Values.{startFacts, valueOf};
-ghost use Rattle.verifier.specs.Scratch.{numberAt, valueAt, factsAt, nothingKnown, Wrote, Stored, Cleared};
-use crate::value::kind_of;
-use crate::value::number_of;
-use crate::value::of_kind;
-use analysis::Gone;
-use analysis::Region;
-use analysis::Value;
+ghost use Rattle.verifier.specs.Scratch.{heldIn, heldAt, factsAt, nothingKnown, Wrote, Changed, Stored, Cleared};
+use crate::value::Held;
 use calculator::sharpen::exactly;
 use known_bits::Bits;
 use number::Number;
 use number::Range;
 
-fn number_at(m: &[u64], at: usize) -> Number
-    requires { ⌜ at + 4 ≤ length (now m) ⌝ }
-    ensures { λ r. ⌜ r ≡ numberAt (now (m .entry)) at ⌝ }
+pub fn held_at(m: &[u64], at: usize) -> Held
+    requires { ⌜ at + 5 ≤ length (now m) ⌝ }
+    ensures { λ r. ⌜ r ≡ heldAt (now (m .entry)) at ⌝ }
 {
     let bits = Bits {
-        value: m[at],
-        mask: m[at + 1],
+        value: m[at + 1],
+        mask: m[at + 2],
     };
     let range = Range {
-        lo: m[at + 2],
-        hi: m[at + 3],
+        lo: m[at + 3],
+        hi: m[at + 4],
     };
-    Number { bits, range }
-}
-
-pub fn value_at(m: &[u64], at: usize) -> Value
-    requires { ⌜ at + 5 ≤ length (now m) ⌝ }
-    ensures { λ r. ⌜ r ≡ valueAt (now (m .entry)) at ⌝ }
-{
-    let n = number_at(m, at + 1);
-    of_kind(m[at], n)
+    let number = Number { bits, range };
+    Held {
+        kind: m[at],
+        number,
+    }
 }
 
 // The value of register r of the state at `at`.
-pub fn register(m: &[u64], at: usize, r: u64) -> Value
+pub fn register(m: &[u64], at: usize, r: u64) -> Held
     requires { ⌜ at + 55 ≤ length (now m) ⌝ }
-    ensures { λ v. ⌜ v ≡ valueOf (factsAt (now (m .entry)) at) r ⌝ }
+    ensures value { λ h. ⌜ heldIn h ≡ valueOf (factsAt (now (m .entry)) at) r ⌝ }
+    ensures words { λ h. ⌜ (r < 11 → h ≡ heldAt (now (m .entry)) (at + 5 * r)) ⌝ }
 {
     if 11 <= r {
-        return Value::Unusable(Gone::Never);
+        return Held {
+            kind: 0,
+            number: exactly(0),
+        };
     }
-    value_at(m, at + 5 * r as usize)
+    held_at(m, at + 5 * r as usize)
 }
 
-pub fn write_value(m: &mut [u64], at: usize, v: Value)
+pub fn write_held(m: &mut [u64], at: usize, h: Held)
     requires { ⌜ at + 5 ≤ length (now m) ⌝ }
-    ensures { λ r. ⌜ Wrote (now (m .entry)) (now (m .exit)) at v ⌝ }
+    ensures { λ r. ⌜ Wrote (now (m .entry)) (now (m .exit)) at h ⌝ }
 {
-    let kind = kind_of(v);
-    let n = number_of(v);
+    let n = h.number;
     let bits = n.bits;
     let range = n.range;
-    let value = bits.value;
-    let mask = bits.mask;
-    let lo = range.lo;
-    let hi = range.hi;
-    m[at] = kind;
-    m[at + 1] = value;
-    m[at + 2] = mask;
-    m[at + 3] = lo;
-    m[at + 4] = hi;
+    m[at] = h.kind;
+    m[at + 1] = bits.value;
+    m[at + 2] = bits.mask;
+    m[at + 3] = range.lo;
+    m[at + 4] = range.hi;
 }
 
-// Register d of the state at `at` becomes v; a register that there is not becomes nothing.
-pub fn put_register(m: &mut [u64], at: usize, d: u64, v: Value)
+// Register d of the state at `at` becomes h; a register that there is not becomes nothing.
+pub fn put_register(m: &mut [u64], at: usize, d: u64, h: Held)
     requires { ⌜ at + 55 ≤ length (now m) ⌝ }
-    ensures { λ r. ⌜ Stored (now (m .entry)) (now (m .exit)) at (having (factsAt (now (m .entry)) at) d v) ⌝ }
+    ensures { λ r. ⌜ Changed (now (m .entry)) (now (m .exit)) at d h ⌝ }
 {
     if 11 <= d {
         return;
     }
-    write_value(m, at + 5 * d as usize, v);
+    write_held(m, at + 5 * d as usize, h);
 }
 
 pub fn copy_state(m: &mut [u64], from: usize, to: usize)
@@ -110,7 +99,14 @@ fn forget(m: &mut [u64], at: usize)
 {
     let mut r = 0;
     while r < 11 {
-        write_value(m, at + 5 * r, Value::Unusable(Gone::Never));
+        write_held(
+            m,
+            at + 5 * r,
+            Held {
+                kind: 0,
+                number: exactly(0),
+            },
+        );
         r += 1;
     }
 }
@@ -120,6 +116,22 @@ pub fn write_start(m: &mut [u64], at: usize)
     ensures { λ r. ⌜ Stored (now (m .entry)) (now (m .exit)) at startFacts ⌝ }
 {
     forget(m, at);
-    put_register(m, at, 1, Value::Address(Region::Record, exactly(0)));
-    put_register(m, at, 10, Value::Address(Region::Stack, exactly(512)));
+    put_register(
+        m,
+        at,
+        1,
+        Held {
+            kind: 3,
+            number: exactly(0),
+        },
+    );
+    put_register(
+        m,
+        at,
+        10,
+        Held {
+            kind: 4,
+            number: exactly(512),
+        },
+    );
 }

@@ -1,124 +1,72 @@
-// States are sent: the state of an index, with a change, comes to a later index, where it is copied or joined to what waits there.
-// Assumes nothing.
+// States are sent: the state of an index comes to a later index, where it is copied or joined to what waits there. To send it with a
+// register changed, the register is changed in place, and its words are put back afterwards. Assumes nothing.
 ghost use mathlib.Core.Path.{_≡_};
 ghost use mathlib.Core.Option.{some};
 ghost use Prim.Native.Nat.{_+_, _*_, _≤_, _<_};
 ghost use lib.ListN.{length};
-ghost use Rattle.analysis.specs.Values.{valueOf, joinedValue, joinedFacts};
+ghost use Rattle.analysis.specs.Values.{valueOf, operandOf, joinedValue, joinedFacts};
+ghost use Rattle.analysis.specs.Effects as effects;
 ghost use Rattle.analysis.specs.Judged as defined;
-ghost use Rattle.verifier.specs.Scratch.{valueAt, factsAt, waitingIn, changed, Wrote, Stored, Arrived, Sent, Ahead};
-use crate::Change;
+ghost use Rattle.verifier.specs.Scratch.{heldIn, heldAt, factsAt, waitingIn, Holds, Stored, Arrived, Sent};
+ghost use Rattle.verifier.specs.Outcome.{reasonOf, effectIn};
 use crate::Step;
+use crate::effect::Outcome;
+use crate::effect::operand_held;
+use crate::effect::unusable;
 use crate::scratch::copy_state;
+use crate::scratch::held_at;
 use crate::scratch::put_register;
 use crate::scratch::register;
-use crate::scratch::value_at;
-use crate::scratch::write_value;
-use crate::value::join_value;
-use analysis::Effect;
+use crate::scratch::write_held;
+use crate::value::Held;
+use crate::value::join_held;
+use crate::value::plain;
 use analysis::Reason;
 use analysis::Value;
+use calculator::compare::not_taken;
+use calculator::compare::taken;
 use machine::instruction::Operand;
+use number::Number;
 use number::Refined;
+use word::Comparison;
 
-fn change_state(m: &mut [u64], at: usize, change: Change)
-    requires { ⌜ at + 55 ≤ length (now m) ⌝ }
-    ensures { λ r. ⌜ Stored (now (m .entry)) (now (m .exit)) at (changed (factsAt (now (m .entry)) at) change) ⌝ }
+fn join_register(m: &mut [u64], from: usize, to: usize)
+    requires { ⌜ (from + 5 ≤ length (now m)) × (to + 5 ≤ length (now m)) ⌝ }
+    ensures { λ r. ⌜ Holds (now (m .entry)) (now (m .exit)) to (joinedValue (heldIn (heldAt (now (m .entry)) to)) (heldIn (heldAt (now (m .entry)) from))) ⌝ }
 {
-    match change {
-        Change::Same => {}
-        Change::One { dst, value } => {
-            put_register(m, at, dst, value);
-        }
-        Change::Two {
-            dst,
-            value,
-            src,
-            second,
-        } => {
-            put_register(m, at, dst, value);
-            put_register(m, at, src, second);
-        }
-    }
+    let old = held_at(m, to);
+    let new = held_at(m, from);
+    let both = join_held(old, new);
+    write_held(m, to, both);
 }
 
-fn copy_changed(m: &mut [u64], from: usize, to: usize, change: Change)
+fn join_state(m: &mut [u64], from: usize, to: usize)
     requires { ⌜ (from + 55 ≤ to) × (to + 55 ≤ length (now m)) ⌝ }
-    ensures { λ r. ⌜ Stored (now (m .entry)) (now (m .exit)) to (changed (factsAt (now (m .entry)) from) change) ⌝ }
-{
-    copy_state(m, from, to);
-    change_state(m, to, change);
-}
-
-// Register r of the state that is sent.
-fn sent_value(m: &[u64], from: usize, r: u64, change: Change) -> Value
-    requires { ⌜ (from + 55 ≤ length (now m)) × (r < 11) ⌝ }
-    ensures { λ v. ⌜ v ≡ valueOf (changed (factsAt (now (m .entry)) from) change) r ⌝ }
-{
-    match change {
-        Change::Same => register(m, from, r),
-        Change::One { dst, value } => {
-            if r == dst {
-                return value;
-            }
-            register(m, from, r)
-        }
-        Change::Two {
-            dst,
-            value,
-            src,
-            second,
-        } => {
-            if r == src {
-                return second;
-            }
-            if r == dst {
-                return value;
-            }
-            register(m, from, r)
-        }
-    }
-}
-
-fn join_register(m: &mut [u64], from: usize, to: usize, r: u64, change: Change)
-    requires { ⌜ (from + 55 ≤ length (now m)) × (to + 55 ≤ length (now m)) × (r < 11) ⌝ }
-    ensures { λ _. ⌜ Wrote (now (m .entry)) (now (m .exit)) (to + 5 * r)
-        (joinedValue (valueAt (now (m .entry)) (to + 5 * r)) (valueOf (changed (factsAt (now (m .entry)) from) change) r)) ⌝ }
-{
-    let place = to + 5 * r as usize;
-    let old = value_at(m, place);
-    let new = sent_value(m, from, r, change);
-    let both = join_value(old, new);
-    write_value(m, place, both);
-}
-
-fn join_changed(m: &mut [u64], from: usize, to: usize, change: Change)
-    requires { ⌜ (from + 55 ≤ to) × (to + 55 ≤ length (now m)) ⌝ }
-    ensures { λ r. ⌜ Stored (now (m .entry)) (now (m .exit)) to (joinedFacts (factsAt (now (m .entry)) to) (changed (factsAt (now (m .entry)) from) change)) ⌝ }
+    ensures { λ r. ⌜ Stored (now (m .entry)) (now (m .exit)) to (joinedFacts (factsAt (now (m .entry)) to) (factsAt (now (m .entry)) from)) ⌝ }
 {
     let mut r = 0;
     while r < 11 {
-        join_register(m, from, to, r, change);
+        join_register(m, from + 5 * r, to + 5 * r);
         r += 1;
     }
 }
 
-fn arrive(m: &mut [u64], n: usize, i: usize, j: usize, change: Change)
+fn arrive(m: &mut [u64], n: usize, i: usize, j: usize)
     requires { ⌜ (i < j) × (j < n) × (56 * n ≤ length (now m)) ⌝ }
-    ensures { λ r. ⌜ Arrived n i (now (m .entry)) (now (m .exit)) j (changed (factsAt (now (m .entry)) (56 * i + 1)) change) ⌝ }
+    ensures { λ r. ⌜ Arrived n i (now (m .entry)) (now (m .exit)) j (factsAt (now (m .entry)) (56 * i + 1)) ⌝ }
 {
     let place = 56 * j;
     if m[place] == 1 {
-        join_changed(m, 56 * i + 1, place + 1, change);
+        join_state(m, 56 * i + 1, place + 1);
         return;
     }
-    copy_changed(m, 56 * i + 1, place + 1, change);
+    copy_state(m, 56 * i + 1, place + 1);
     m[place] = 1;
 }
 
-fn send(m: &mut [u64], n: usize, i: usize, j: u64, change: Change, work: u64) -> Step
+pub fn send(m: &mut [u64], n: usize, i: usize, j: u64, work: u64) -> Step
     requires { ⌜ (i < j) × (56 * n ≤ length (now m)) × (work < 1048576) ⌝ }
-    ensures { λ r. ⌜ Sent (defined.send n j (some (changed (factsAt (now (m .entry)) (56 * i + 1)) change)) (waitingIn n (now (m .entry))) work) n i r (now (m .entry)) (now (m .exit)) ⌝ }
+    ensures { λ r. ⌜ Sent (defined.send n j (some (factsAt (now (m .entry)) (56 * i + 1))) (waitingIn n (now (m .entry))) work) n i r (now (m .entry)) (now (m .exit)) ⌝ }
 {
     if n as u64 <= j {
         return Step::Halt {
@@ -126,8 +74,49 @@ fn send(m: &mut [u64], n: usize, i: usize, j: u64, change: Change, work: u64) ->
             work,
         };
     }
-    arrive(m, n, i, j as usize, change);
+    arrive(m, n, i, j as usize);
     Step::More { work: work + 11 }
+}
+
+// With h in register d.
+fn send_with(m: &mut [u64], n: usize, i: usize, j: u64, d: u64, h: Held, work: u64) -> Step
+    requires { ⌜ (i < n) × (i < j) × (56 * n ≤ length (now m)) × (work < 1048576) ⌝ }
+    ensures { λ r. ⌜ Sent (defined.send n j (some (defined.having (factsAt (now (m .entry)) (56 * i + 1)) d (heldIn h))) (waitingIn n (now (m .entry))) work) n i r (now (m .entry)) (now (m .exit)) ⌝ }
+{
+    let at = 56 * i + 1;
+    let old = register(m, at, d);
+    put_register(m, at, d, h);
+    let step = send(m, n, i, j, work);
+    put_register(m, at, d, old);
+    step
+}
+
+// With what a way out of a jump tells of both operands.
+fn send_with_both(
+    m: &mut [u64],
+    n: usize,
+    i: usize,
+    j: u64,
+    d: u64,
+    s: Operand,
+    x: Number,
+    y: Number,
+    work: u64,
+) -> Step
+    requires { ⌜ (i < n) × (i < j) × (56 * n ≤ length (now m)) × (work < 1048576) ⌝ }
+    ensures { λ r. ⌜ Sent (defined.send n j (some (defined.withOperand (defined.having (factsAt (now (m .entry)) (56 * i + 1)) d (Value.Plain x)) s (Value.Plain y))) (waitingIn n (now (m .entry))) work) n i r (now (m .entry)) (now (m .exit)) ⌝ }
+{
+    match s {
+        Operand::Immediate(_) => send_with(m, n, i, j, d, plain(x), work),
+        Operand::Register(r) => {
+            let at = 56 * i + 1;
+            let old = register(m, at, d);
+            put_register(m, at, d, plain(x));
+            let step = send_with(m, n, i, j, r, plain(y), work);
+            put_register(m, at, d, old);
+            step
+        }
+    }
 }
 
 // A way out of a jump.
@@ -141,81 +130,82 @@ fn send_along(
     way: Refined,
     work: u64,
 ) -> Step
-    requires { ⌜ (i < j) × (56 * n ≤ length (now m)) × (work < 1048576) ⌝ }
+    requires { ⌜ (i < n) × (i < j) × (56 * n ≤ length (now m)) × (work < 1048576) ⌝ }
     ensures { λ r. ⌜ Sent (defined.send n j (defined.along (factsAt (now (m .entry)) (56 * i + 1)) d s way) (waitingIn n (now (m .entry))) work) n i r (now (m .entry)) (now (m .exit)) ⌝ }
 {
     match way {
         Refined::Excluded => Step::More { work },
-        Refined::Possible(x, y) => match s {
-            Operand::Immediate(_) => send(
-                m,
-                n,
-                i,
-                j,
-                Change::One {
-                    dst: d,
-                    value: Value::Plain(x),
-                },
-                work,
-            ),
-            Operand::Register(r) => send(
-                m,
-                n,
-                i,
-                j,
-                Change::Two {
-                    dst: d,
-                    value: Value::Plain(x),
-                    src: r,
-                    second: Value::Plain(y),
-                },
-                work,
-            ),
-        },
+        Refined::Possible(x, y) => send_with_both(m, n, i, j, d, s, x, y, work),
+    }
+}
+
+pub fn reason_of(code: u64) -> Reason
+    ensures { λ r. ⌜ r ≡ reasonOf code ⌝ }
+{
+    match code {
+        3 => Reason::NoCode,
+        4 => Reason::WritesR10,
+        7 => Reason::ReadsUnset,
+        8 => Reason::Outside,
+        _ => Reason::LeaksAddress,
     }
 }
 
 // Both ways out of a jump, the way on first.
-fn send_both(
+pub fn jump(
     m: &mut [u64],
     n: usize,
     i: usize,
+    c: Comparison,
     d: u64,
     s: Operand,
-    onward: Refined,
-    taken: Refined,
     target: u64,
     work: u64,
 ) -> Step
     requires { ⌜ (i < n) × (i < target) × (n ≤ 4096) × (56 * n ≤ length (now m)) × (work < 1048000) ⌝ }
-    ensures { λ r. ⌜ Sent (defined.distribute n i (waitingIn n (now (m .entry))) work
-        (defined.apply (factsAt (now (m .entry)) (56 * i + 1)) (Effect.Fork d s onward taken target))) n i r (now (m .entry)) (now (m .exit)) ⌝ }
+    ensures { λ r. ⌜ Sent (defined.distribute n i (waitingIn n (now (m .entry))) work (defined.apply (factsAt (now (m .entry)) (56 * i + 1))
+        (effects.readingBoth (valueOf (factsAt (now (m .entry)) (56 * i + 1)) d) (operandOf (factsAt (now (m .entry)) (56 * i + 1)) s)
+        (effects.fork c d s target (valueOf (factsAt (now (m .entry)) (56 * i + 1)) d) (operandOf (factsAt (now (m .entry)) (56 * i + 1)) s)))))
+        n i r (now (m .entry)) (now (m .exit)) ⌝ }
 {
+    let at = 56 * i + 1;
+    let x = register(m, at, d);
+    let y = operand_held(m, at, s);
+    if (x.kind != 2) | (y.kind != 2) {
+        return Step::Halt {
+            reason: reason_of(unusable(x.kind, y.kind)),
+            work,
+        };
+    }
+    let onward = not_taken(c, x.number, y.number);
     let step = send_along(m, n, i, i as u64 + 1, d, s, onward, work);
     match step {
         Step::Halt { reason, work: done } => Step::Halt { reason, work: done },
-        Step::More { work: done } => send_along(m, n, i, target, d, s, taken, done),
+        Step::More { work: done } => {
+            let there = taken(c, x.number, y.number);
+            send_along(m, n, i, target, d, s, there, done)
+        }
     }
 }
 
-// An effect on the state at index i.
-pub fn distribute(m: &mut [u64], n: usize, i: usize, e: Effect, work: u64) -> Step
-    requires { ⌜ (i < n) × (n ≤ 4096) × (56 * n ≤ length (now m)) × (work < 1048000) × Ahead i e ⌝ }
+// An outcome at index i.
+pub fn proceed(m: &mut [u64], n: usize, i: usize, o: Outcome, work: u64) -> Step
+    requires { ⌜ (i < n) × (n ≤ 4096) × (56 * n ≤ length (now m)) × (work < 1048000) ⌝ }
     ensures { λ r. ⌜ Sent (defined.distribute n i (waitingIn n (now (m .entry))) work
-        (defined.apply (factsAt (now (m .entry)) (56 * i + 1)) e)) n i r (now (m .entry)) (now (m .exit)) ⌝ }
+        (defined.apply (factsAt (now (m .entry)) (56 * i + 1)) (effectIn o))) n i r (now (m .entry)) (now (m .exit)) ⌝ }
 {
-    match e {
-        Effect::Refuse(reason) => Step::Halt { reason, work },
-        Effect::Put { dst, value } => send(m, n, i, i as u64 + 1, Change::One { dst, value }, work),
-        Effect::Keep => send(m, n, i, i as u64 + 1, Change::Same, work),
-        Effect::Fork {
-            dst,
-            operand,
-            onward,
-            taken,
-            target,
-        } => send_both(m, n, i, dst, operand, onward, taken, target, work),
-        Effect::Goto { target } => send(m, n, i, target, Change::Same, work),
-        Effect::Stop => Step::More { work },
+    if o.code == 0 {
+        let h = o.held;
+        return send_with(m, n, i, i as u64 + 1, o.dst, h, work);
+    }
+    if o.code == 1 {
+        return send(m, n, i, i as u64 + 1, work);
+    }
+    if o.code == 2 {
+        return Step::More { work };
+    }
+    Step::Halt {
+        reason: reason_of(o.code),
+        work,
     }
 }

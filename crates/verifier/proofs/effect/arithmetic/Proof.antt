@@ -1,18 +1,19 @@
--- `arithmetic`: either width, with the second operand read.
+-- `arithmetic`: both operands are read; MOV reads one.
 -- Assumes nothing.
 use mathlib.Core.Path.{sym}
 use borrow.Author.Needs.{needs}
-use Rattle.machine.specs.Machine.{bits}
+use Rattle.verifier.proofs.Outcomes.{no-move}
 use Rattle.verifier.proofs.effect.arithmetic.Statement.{statement}
 use Rattle.verifier.proofs.effect.arithmetic.Tie as tie
 
+calculated-requires : tie.Need-calculated-requires
+calculated-requires c κs = no-move _ (c .before .match .keys2)
+
 returns : tie.Need-returns
-unfolding bits
-returns c = rw (c .before .enum-told .given .1, sym (c .before .before .before .operand-value .ensures)) (c .arithmetic64 .ensures)
+returns c = rw (c .before .enum-told .given .1, sym (c .before .before .before .operand-held .ensures)) (c .moved .ensures _)
 
 returns-2 : tie.Need-returns-2
-unfolding bits
-returns-2 c = rw (c .before .enum-told2 .given .1, sym (c .before .before .before .operand-value .ensures)) (c .arithmetic32 .ensures)
+returns-2 c = rw (sym (c .before .before .before .operand-held .ensures), sym (c .before .register .ensures .0)) (c .calculated .ensures)
 
 pub arithmetic-spec : {M : Type 1} → statement M
 arithmetic-spec =
@@ -21,7 +22,7 @@ arithmetic-spec =
     (λ c κs. search needs)
     (λ c. search needs)
     (λ c κs. search needs)
-    (λ c. search needs)
     (λ c κs. search needs)
+    calculated-requires
     returns
     returns-2)

@@ -1,16 +1,16 @@
--- `calculated32`: the register is read, and the result put where both may be.
+-- `calculated32`: numbers are calculated with.
 -- Assumes nothing.
-use mathlib.Core.Path.{sym}
+use mathlib.Core.Path.{_∙_}
 use borrow.Author.Needs.{needs}
-use Rattle.verifier.proofs.Permits.{what-is-allowed, what-is-forbidden}
+use Rattle.verifier.proofs.Outcomes.{both-are-numbers, one-is-no-number}
 use Rattle.verifier.proofs.effect.calculated32.Statement.{statement}
 use Rattle.verifier.proofs.effect.calculated32.Tie as tie
 
 returns : tie.Need-returns
-returns c = rw (sym (c .before .before .before .before .register .ensures)) (what-is-allowed _ _ _ _ (c .before .before .before .reading-both .ensures _) (c .before .enum-told .given .1) (c .calculate32 .ensures))
+returns c = c .put .ensures ∙ both-are-numbers _ _ _ _ _ _ _ (c .before .before .before .if1 .taken) (c .before .plain .ensures) (c .before .before .alu32 .ensures)
 
 returns-2 : tie.Need-returns-2
-returns-2 c = rw (sym (c .before .before .before .before .register .ensures)) (what-is-forbidden _ _ _ _ (c .before .before .before .reading-both .ensures _) (c .before .permit .given .1))
+returns-2 c = c .refuse-kinds .ensures ∙ one-is-no-number _ _ _ _ _ (c .before .if1 .left)
 
 pub calculated32-spec : {M : Type 1} → statement M
 calculated32-spec =
@@ -18,8 +18,7 @@ calculated32-spec =
     (tie.spec
     (λ c κs. search needs)
     (λ c κs. search needs)
-    (λ c. search needs)
     (λ c κs. search needs)
-    (λ c. search needs)
     returns
+    (λ c κs. search needs)
     returns-2)

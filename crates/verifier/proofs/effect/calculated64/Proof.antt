@@ -1,16 +1,22 @@
--- `calculated64`: the register is read, and the result put where both may be.
+-- `calculated64`: a result is put, of the kind that the kinds of the operands give.
 -- Assumes nothing.
-use mathlib.Core.Path.{sym}
+use mathlib.Core.Path.{_∙_}
 use borrow.Author.Needs.{needs}
-use Rattle.verifier.proofs.Permits.{what-is-allowed, what-is-forbidden}
+use Rattle.verifier.specs.Scratch.{heldIn}
+use Rattle.verifier.proofs.Outcomes.{no-result, a-result, in-order, the-other-way}
 use Rattle.verifier.proofs.effect.calculated64.Statement.{statement}
 use Rattle.verifier.proofs.effect.calculated64.Tie as tie
 
 returns : tie.Need-returns
-returns c = rw (sym (c .before .before .before .before .register .ensures)) (what-is-allowed _ _ _ _ (c .before .before .before .reading-both .ensures _) (c .before .enum-told .given .1) (c .calculate64 .ensures))
+returns c = c .refuse-kinds .ensures ∙ no-result _ _ _ _ _ (c .before .before .before .pre) (c .before .before .result-kind .ensures) (c .before .if1 .taken)
 
 returns-2 : tie.Need-returns-2
-returns-2 c = rw (sym (c .before .before .before .before .register .ensures)) (what-is-forbidden _ _ _ _ (c .before .before .before .reading-both .ensures _) (c .before .permit .given .1))
+unfolding heldIn
+returns-2 c = c .put .ensures ∙ a-result _ _ _ _ _ (c .before .before .before .before .before .before .pre) (c .before .before .before .before .before .result-kind .ensures) _ (c .before .before .before .before .if1 .left) (c .before .alu64 .ensures ∙ the-other-way _ _ _ _ (c .before .before .if2 .taken))
+
+returns-3 : tie.Need-returns-3
+unfolding heldIn
+returns-3 c = c .put2 .ensures ∙ a-result _ _ _ _ _ (c .before .before .before .before .before .before .pre) (c .before .before .before .before .before .result-kind .ensures) _ (c .before .before .before .before .if1 .left) (c .before .alu642 .ensures ∙ in-order _ _ _ _ (c .before .before .if2 .left))
 
 pub calculated64-spec : {M : Type 1} → statement M
 calculated64-spec =
@@ -18,8 +24,10 @@ calculated64-spec =
     (tie.spec
     (λ c κs. search needs)
     (λ c κs. search needs)
-    (λ c. search needs)
-    (λ c κs. search needs)
-    (λ c. search needs)
     returns
-    returns-2)
+    (λ c κs. search needs)
+    (λ c κs. search needs)
+    returns-2
+    (λ c κs. search needs)
+    (λ c κs. search needs)
+    returns-3)

@@ -1,17 +1,22 @@
--- `copied`: what may be read is put, and what may not is refused.
+-- `copied`: what may be read is put.
 -- Assumes nothing.
+use mathlib.Core.Path.{_∙_}
 use borrow.Author.Needs.{needs}
-use Rattle.verifier.proofs.Permits.{what-is-allowed, what-is-forbidden}
+use Rattle.verifier.proofs.Outcomes.{it-may-not-be-read, it-may-be-read}
 use Rattle.verifier.proofs.effect.copied.Statement.{statement}
 use Rattle.verifier.proofs.effect.copied.Tie as tie
 
 returns : tie.Need-returns
-returns c = what-is-allowed _ _ _ _ (c .before .before .before .reading .ensures _) (c .before .enum-told .given .1) (c .put .ensures)
+returns c = c .refuse-kinds .ensures ∙ it-may-not-be-read _ _ (c .before .if1 .taken)
 
 returns-2 : tie.Need-returns-2
-returns-2 c = what-is-forbidden _ _ _ _ (c .before .before .before .reading .ensures _) (c .before .permit .given .1)
+returns-2 c = c .put .ensures ∙ it-may-be-read _ _ (c .before .if1 .left)
 
 pub copied-spec : {M : Type 1} → statement M
 copied-spec =
     tie.close
-    (tie.spec (λ c κs. search needs) (λ c. search needs) (λ c κs. search needs) (λ c. search needs) returns returns-2)
+    (tie.spec
+    (λ c κs. search needs)
+    returns
+    (λ c κs. search needs)
+    returns-2)

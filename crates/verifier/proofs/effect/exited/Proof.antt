@@ -1,25 +1,23 @@
--- `exited`: r0 is read, and is the verdict where it may be.
+-- `exited`: the verdict is a number.
 -- Assumes nothing.
-use mathlib.Core.Path.{sym}
+use mathlib.Core.Path.{_∙_}
 use borrow.Author.Needs.{needs}
-use Rattle.verifier.proofs.Permits.{what-is-allowed, what-is-forbidden}
+use Rattle.verifier.specs.Outcome.{effectIn}
+use Rattle.verifier.proofs.Outcomes.{it-is-the-verdict, it-is-no-verdict}
 use Rattle.verifier.proofs.effect.exited.Statement.{statement}
 use Rattle.verifier.proofs.effect.exited.Tie as tie
 
 returns : tie.Need-returns
-returns c = rw (sym (c .before .before .before .before .register .ensures)) (what-is-allowed _ _ _ _ (c .before .before .before .reading .ensures _) (c .before .enum-told .given .1) (c .exit .ensures))
+unfolding effectIn
+returns c = it-is-the-verdict _ (c .if1 .taken)
 
 returns-2 : tie.Need-returns-2
-returns-2 c = rw (sym (c .before .before .before .before .register .ensures)) (what-is-forbidden _ _ _ _ (c .before .before .before .reading .ensures _) (c .before .permit .given .1))
+returns-2 c = c .refuse-kinds .ensures ∙ it-is-no-verdict _ (c .before .if1 .left)
 
 pub exited-spec : {M : Type 1} → statement M
 exited-spec =
     tie.close
     (tie.spec
-    (λ c κs. search needs)
-    (λ c κs. search needs)
-    (λ c. search needs)
-    (λ c κs. search needs)
-    (λ c. search needs)
     returns
+    (λ c κs. search needs)
     returns-2)

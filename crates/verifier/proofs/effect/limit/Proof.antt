@@ -1,17 +1,18 @@
--- `limit`: a region is as long as it is defined to be.
+-- `limit`: kind 3 is the record.
 -- Assumes nothing.
-use borrow.Author.Needs.{needs}
-use Rattle.analysis.specs.Effects.{limit}
+use borrow.Author.Tests.{ne-eqb}
 use Rattle.verifier.proofs.effect.limit.Statement.{statement}
 use Rattle.verifier.proofs.effect.limit.Tie as tie
 
 returns : tie.Need-returns
-unfolding limit
-returns c = cc
+returns c = rw (c .if1 .taken)
 
 returns-2 : tie.Need-returns-2
-unfolding limit
-returns-2 c = cc
+returns-2 c = rw (ne-eqb _ _ (c .if1 .left))
 
 pub limit-spec : {M : Type 1} → statement M
-limit-spec = tie.close (tie.spec (λ c. search needs) (λ c. search needs) returns returns-2)
+limit-spec =
+    tie.close
+    (tie.spec
+    returns
+    returns-2)

@@ -1,25 +1,42 @@
--- `loaded`: the base is read, and loaded from where it may be.
+-- `loaded`: an address is read from within its region.
 -- Assumes nothing.
-use mathlib.Core.Path.{sym}
+use mathlib.Core.Path.{sym, _∙_}
 use borrow.Author.Needs.{needs}
-use Rattle.verifier.proofs.Permits.{what-is-allowed, what-is-forbidden}
+use Rattle.number.specs.Sharpen.{loaded}
+use Rattle.verifier.specs.Outcome.{reasonOf}
+use Rattle.verifier.proofs.Outcomes.{it-may-not-be-read, it-is-no-address, it-is-loaded-from, it-leads-outside}
 use Rattle.verifier.proofs.effect.loaded.Statement.{statement}
 use Rattle.verifier.proofs.effect.loaded.Tie as tie
 
 returns : tie.Need-returns
-returns c = rw (sym (c .before .before .before .before .register .ensures)) (what-is-allowed _ _ _ _ (c .before .before .before .reading .ensures _) (c .before .enum-told .given .1) (c .load-from .ensures))
+returns c = c .refuse-kinds .ensures ∙ it-may-not-be-read _ _ (c .before .if1 .taken)
 
 returns-2 : tie.Need-returns-2
-returns-2 c = rw (sym (c .before .before .before .before .register .ensures)) (what-is-forbidden _ _ _ _ (c .before .before .before .reading .ensures _) (c .before .permit .given .1))
+unfolding reasonOf
+returns-2 c = c .refuse .ensures ∙ it-is-no-address _ _ _ _ _ (c .before .if2 .taken)
+
+returns-3 : tie.Need-returns-3
+unfolding loaded
+returns-3 c = c .put .ensures ∙ it-is-loaded-from _ _ _ _ _ _ _ (c .before .before .before .before .before .before .before .before .before .if1 .left) (c .before .before .before .before .before .before .before .if2 .left) (c .before .before .before .before .before .before .limit .ensures) (sym (c .before .before .before .before .before .inside .ensures) ∙ c .before .before .before .before .if3 .taken) (c .before .plain .ensures ∙ rw (c .before .before .load .ensures, c .before .before .before .last .ensures))
+
+returns-4 : tie.Need-returns-4
+unfolding reasonOf
+returns-4 c = c .refuse2 .ensures ∙ it-leads-outside _ _ _ _ _ _ (c .before .before .before .before .before .before .if1 .left) (c .before .before .before .before .if2 .left) (c .before .before .before .limit .ensures) (sym (c .before .before .inside .ensures) ∙ c .before .if3 .left)
 
 pub loaded-spec : {M : Type 1} → statement M
 loaded-spec =
     tie.close
     (tie.spec
     (λ c κs. search needs)
-    (λ c κs. search needs)
-    (λ c. search needs)
-    (λ c κs. search needs)
-    (λ c. search needs)
     returns
-    returns-2)
+    (λ c κs. search needs)
+    returns-2
+    (λ c κs. search needs)
+    (λ c κs. search needs)
+    (λ c κs. search needs)
+    (λ c κs. search needs)
+    (λ c κs. search needs)
+    (λ c κs. search needs)
+    returns-3
+    (λ c κs. search needs)
+    returns-4)

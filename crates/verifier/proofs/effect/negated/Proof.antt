@@ -1,35 +1,37 @@
--- `negated`: either width, with the register read once.
+-- `negated`: a number is negated.
 -- Assumes nothing.
-use mathlib.Core.Path.{sym}
+use mathlib.Core.Path.{sym, _∙_}
 use borrow.Author.Needs.{needs}
+use borrow.Author.Tests.{ne-eqb}
 use Rattle.machine.specs.Machine.{bits}
-use Rattle.verifier.proofs.Permits.{what-is-allowed, what-is-forbidden}
+use Rattle.verifier.proofs.KindLaws.{one-value-read-as-two}
+use Rattle.verifier.proofs.Outcomes.{both-are-numbers, one-is-no-number}
 use Rattle.verifier.proofs.effect.negated.Statement.{statement}
 use Rattle.verifier.proofs.effect.negated.Tie as tie
 
 returns : tie.Need-returns
 unfolding bits
-returns c = rw (sym (c .before .before .before .before .before .before .register .ensures), c .before .enum-told2 .given .1) (what-is-allowed _ _ _ _ (c .before .before .before .before .before .reading .ensures _) (c .before .before .before .enum-told .given .1) (c .calculate64 .ensures))
+returns c = rw (c .before .before .before .before .before .enum-told .given .1) (c .put .ensures ∙ both-are-numbers _ _ _ _ _ _ _ (rw (c .before .before .before .if1 .taken)) (c .before .plain .ensures) (c .before .before .alu64 .ensures) ∙ sym (one-value-read-as-two _ _))
 
 returns-2 : tie.Need-returns-2
 unfolding bits
-returns-2 c = rw (sym (c .before .before .before .before .before .before .register .ensures), c .before .enum-told3 .given .1) (what-is-allowed _ _ _ _ (c .before .before .before .before .before .reading .ensures _) (c .before .before .before .enum-told .given .1) (c .calculate32 .ensures))
+returns-2 c = rw (c .before .before .before .enum-told .given .1) (c .refuse-kinds .ensures ∙ one-is-no-number _ _ _ _ _ (rw (ne-eqb _ _ (c .before .if1 .left))) ∙ sym (one-value-read-as-two _ _))
 
 returns-3 : tie.Need-returns-3
-returns-3 c = rw (sym (c .before .before .before .before .register .ensures)) (what-is-forbidden _ _ _ _ (c .before .before .before .reading .ensures _) (c .before .permit .given .1))
+unfolding bits
+returns-3 c = rw (c .before .enum-told2 .given .1) (c .calculated32 .ensures ∙ sym (one-value-read-as-two _ _))
 
 pub negated-spec : {M : Type 1} → statement M
 negated-spec =
     tie.close
     (tie.spec
-    (λ c κs. search needs)
-    (λ c κs. search needs)
-    (λ c. search needs)
     (λ c. search needs)
     (λ c κs. search needs)
-    (λ c. search needs)
     (λ c κs. search needs)
-    (λ c. search needs)
+    (λ c κs. search needs)
     returns
+    (λ c κs. search needs)
+    (λ c. search needs)
+    (λ c κs. search needs)
     returns-2
     returns-3)

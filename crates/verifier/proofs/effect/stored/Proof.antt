@@ -1,26 +1,36 @@
--- `stored`: base and operand are read, and stored where both may be.
+-- `stored`: a number is stored within the stack.
 -- Assumes nothing.
-use mathlib.Core.Path.{sym}
+use mathlib.Core.Path.{sym, _∙_}
 use borrow.Author.Needs.{needs}
-use Rattle.verifier.proofs.Permits.{what-is-allowed, what-is-forbidden}
+use Rattle.verifier.specs.Outcome.{reasonOf, effectIn}
+use Rattle.verifier.proofs.Outcomes.{it-may-not-be-stored, not-on-the-stack, within-the-stack, beyond-the-stack}
 use Rattle.verifier.proofs.effect.stored.Statement.{statement}
 use Rattle.verifier.proofs.effect.stored.Tie as tie
 
 returns : tie.Need-returns
-returns c = rw (sym (c .before .before .before .before .before .register .ensures), sym (c .before .before .before .before .operand-value .ensures)) (what-is-allowed _ _ _ _ (c .before .before .before .reading-both .ensures _) (c .before .enum-told .given .1) (c .store .ensures))
+returns c = c .refuse-kinds .ensures ∙ it-may-not-be-stored _ _ _ _ (c .before .if1 .taken)
 
 returns-2 : tie.Need-returns-2
-returns-2 c = rw (sym (c .before .before .before .before .before .register .ensures), sym (c .before .before .before .before .operand-value .ensures)) (what-is-forbidden _ _ _ _ (c .before .before .before .reading-both .ensures _) (c .before .permit .given .1))
+unfolding reasonOf
+returns-2 c = c .refuse .ensures ∙ not-on-the-stack _ _ _ _ (c .before .before .before .if1 .left) (c .before .if2 .taken)
+
+returns-3 : tie.Need-returns-3
+unfolding effectIn
+returns-3 c = within-the-stack _ _ _ _ (c .before .before .before .before .if1 .left) (c .before .before .if2 .left) (sym (c .before .inside .ensures) ∙ c .if3 .taken)
+
+returns-4 : tie.Need-returns-4
+unfolding reasonOf
+returns-4 c = c .refuse2 .ensures ∙ beyond-the-stack _ _ _ _ (c .before .before .before .before .before .if1 .left) (c .before .before .before .if2 .left) (sym (c .before .before .inside .ensures) ∙ c .before .if3 .left)
 
 pub stored-spec : {M : Type 1} → statement M
 stored-spec =
     tie.close
     (tie.spec
     (λ c κs. search needs)
-    (λ c κs. search needs)
-    (λ c κs. search needs)
-    (λ c. search needs)
-    (λ c κs. search needs)
-    (λ c. search needs)
     returns
-    returns-2)
+    (λ c κs. search needs)
+    returns-2
+    (λ c κs. search needs)
+    returns-3
+    (λ c κs. search needs)
+    returns-4)

@@ -3,9 +3,10 @@
 use Prim.Native.Nat.{_-_}
 use mathlib.Core.Path.{refl}
 use native.Mathlib.Omega.{arith}
-use Rattle.verifier.specs.Scratch.{nothingKnown}
+use borrow.Author.Needs.{needs}
+use Rattle.verifier.specs.Scratch.{heldIn, ofKind, nothingKnown}
 use Rattle.verifier.proofs.Blocks.{never-known}
-use Rattle.verifier.proofs.Words.{Storing, none-is-stored, one-more-is-stored, all-is-stored}
+use Rattle.verifier.proofs.Words.{Storing, none-is-stored, one-more-is-stored, all-is-stored, what-is-written-is-held}
 use Rattle.verifier.proofs.scratch.forget.Statement.{statement}
 use Rattle.verifier.proofs.scratch.forget.Tie as tie
 
@@ -19,7 +20,10 @@ loop-holds : tie.Need-loop-holds Inv-loop μ-loop
 loop-holds c = none-is-stored _ _ _
 
 loop-again : tie.Need-loop-again Inv-loop μ-loop
-loop-again c = one-more-is-stored _ _ _ _ _ _ _ (c .before .before .before .before .loop-test .taken) (never-known _) (c .before .before .before .before .before .loop .inv) (c .before .before .write-value .ensures)
+unfolding heldIn ofKind
+loop-again c =
+    let head = c .before .before .before .before .before .before in
+    one-more-is-stored _ _ _ _ _ _ _ (c .before .before .before .before .before .loop-test .taken) (never-known _) (head .loop .inv) (what-is-written-is-held _ _ _ _ _ (c .before .before .write-held .ensures) refl)
 
 same-length : tie.Need-same-length Inv-loop μ-loop
 same-length c = c .before .loop .inv .size
@@ -37,6 +41,7 @@ forget-spec =
     loop-holds
     (λ c. omega arith)
     (λ c. omega arith)
+    (λ c κs. search needs)
     (λ c κs. omega arith)
     (λ c. omega arith)
     (λ c. omega arith)

@@ -9,9 +9,15 @@ returns : tie.Need-returns
 returns c = nothing-is-put-out-of-range _ _ _ _ (c .if1 .taken)
 
 returns-2 : tie.Need-returns-2
-returns-2 c = a-register-is-put _ _ _ _ _ (c .before .before .before .before .if1 .left) (c .before .before .write-value .ensures)
+returns-2 c = a-register-is-put _ _ _ _ _ (c .before .before .before .before .if1 .left) (c .before .before .write-held .ensures)
 
 pub put-register-spec : {M : Type 1} → statement M
 put-register-spec =
     tie.close
-    (tie.spec returns (λ c. search needs) (λ c. search needs) (λ c κs. search needs) (λ c. search needs) returns-2)
+    (tie.spec
+    returns
+    (λ c. search needs)
+    (λ c. search needs)
+    (λ c κs. search needs)
+    (λ c. search needs)
+    returns-2)

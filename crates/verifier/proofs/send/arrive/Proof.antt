@@ -8,12 +8,12 @@ use Rattle.verifier.proofs.send.arrive.Tie as tie
 returns : tie.Need-returns
 returns c =
     let start = c .before .before .before .before .before .before .before in
-    a-state-comes-to-a-marked-block _ _ _ _ _ _ (start .pre .0) (start .pre .1) (c .before .before .before .before .if1 .taken) (c .before .before .join-changed .ensures)
+    a-state-comes-to-a-marked-block _ _ _ _ _ _ (start .pre .0) (start .pre .1) (c .before .before .before .before .if1 .taken) (c .before .before .join-state .ensures)
 
 returns-2 : tie.Need-returns-2
 returns-2 c =
     let start = c .before .before .before .before .before .before .before in
-    a-state-comes-to-an-unmarked-block _ _ _ _ _ _ (start .pre .0) (start .pre .1) (start .pre .2) (c .before .before .before .before .if1 .left) (c .before .before .copy-changed .ensures)
+    a-state-comes-to-an-unmarked-block _ _ _ _ _ _ (start .pre .0) (start .pre .1) (start .pre .2) (c .before .before .before .before .if1 .left) (c .before .before .copy-state .ensures)
 
 pub arrive-spec : {M : Type 1} → statement M
 arrive-spec =

@@ -2,18 +2,17 @@
 -- Assumes nothing.
 use mathlib.Core.Path.{sym}
 use borrow.Author.Needs.{needs}
+use Rattle.verifier.proofs.Words.{what-is-written-is-held}
 use Rattle.verifier.proofs.send.join_register.Statement.{statement}
 use Rattle.verifier.proofs.send.join_register.Tie as tie
 
 returns : tie.Need-returns
-returns c = rw (sym (c .before .before .before .before .before .before .before .value-at .ensures), sym (c .before .before .before .before .before .sent-value .ensures), sym (c .before .before .before .before .join-value .ensures)) (c .before .before .write-value .ensures)
+returns c = what-is-written-is-held _ _ _ _ _ (c .before .before .write-held .ensures) (rw (sym (c .before .before .before .before .before .before .before .held-at .ensures), sym (c .before .before .before .before .before .held-at2 .ensures)) (c .before .before .before .before .join-held .ensures))
 
 pub join-register-spec : {M : Type 1} → statement M
 join-register-spec =
     tie.close
     (tie.spec
-    (λ c. search needs)
-    (λ c. search needs)
     (λ c κs. search needs)
     (λ c κs. search needs)
     (λ c κs. search needs)

@@ -12,4 +12,11 @@ returns-2 : tie.Need-returns-2
 returns-2 c = what-is-sent-arrives _ _ _ _ _ _ _ (c .before .before .before .before .if1 .left) (c .before .before .arrive .ensures)
 
 pub send-spec : {M : Type 1} → statement M
-send-spec = tie.close (tie.spec returns (λ c κs. search needs) (λ c. search needs) (λ c. search needs) returns-2)
+send-spec =
+    tie.close
+    (tie.spec
+    returns
+    (λ c κs. search needs)
+    (λ c. search needs)
+    (λ c. search needs)
+    returns-2)

@@ -1,0 +1,13 @@
+// What the verifier knows at each index of a program, and why it refuses, as text.
+// All on slices, with no input or output. Assumes nothing.
+mod access;
+mod effect;
+mod joins;
+pub mod known;
+mod leak;
+pub mod line;
+mod page;
+mod reads;
+pub mod reason;
+mod refusal;
+mod registers;

@@ -1,0 +1,2 @@
+pub mod Announcing
+pub mod Vectors

@@ -1,0 +1,322 @@
+// The words of the command line as an order, what is wrong with them, and the help text: all on slices, with no input or output.
+// The arguments are one slice, each followed by a 0 byte. The definitions that the contracts cite are in `specs/`. Assumes nothing.
+ghost use Prim.Native.Nat.{_≤_};
+ghost use lib.ListN.{length};
+ghost use Rattle.orders.specs.Orders.{Answer, Sane, Stepped};
+use step::Progress;
+use step::Step;
+use step::take_word;
+use text::scan::find;
+use word::ELF;
+use word::FILE;
+use word::HELP;
+use word::HEX;
+use word::Head;
+use word::RAW;
+use word::RECORD;
+use word::RECORD_FILE;
+use word::SECTION;
+use word::TRACE;
+use word::is_dash;
+use word::next_word;
+use word::option_of;
+use word::options_of;
+use word::topic_of;
+use word::topic_of_verb;
+
+mod manual;
+mod message;
+mod step;
+mod word;
+
+pub use manual::help;
+pub use message::complain;
+
+// A piece of the arguments.
+pub struct Span {
+    pub start: usize,
+    pub end: usize,
+}
+
+pub enum Verb {
+    Verify,
+    Explain,
+    Run,
+    Show,
+}
+
+pub enum Topic {
+    Whole,
+    Verify,
+    Explain,
+    Run,
+    Show,
+    Batch,
+    Help,
+}
+
+// What the file holds, where an option says so.
+pub enum Kind {
+    Guess,
+    Raw,
+    Hex,
+    Elf,
+}
+
+// What is to be done. An empty section: none was named.
+pub struct Order {
+    pub verb: Verb,
+    pub file: Span,
+    pub kind: Kind,
+    pub section: Span,
+    pub length: u64,
+    pub rec_file: Span,
+    pub rec_at: u64,
+    pub stack_at: u64,
+    pub budget: u64,
+    pub trace: bool,
+}
+
+pub enum Fault {
+    NoVerb,
+    UnknownVerb,
+    BatchAlone,
+    ExtraWord,
+    UnknownOption,
+    NotForVerb,
+    Twice,
+    MissingValue,
+    UnwantedValue,
+    NotANumber,
+    NoFile,
+    TwoFiles,
+    NoRecord,
+    NoRecordFile,
+    TwoKinds,
+    EmptySection,
+    SectionNeedsElf,
+    TwoStdin,
+}
+
+pub enum Parsed {
+    Do(Order),
+    HelpOn(Topic),
+    Wrong { fault: Fault, at: Span },
+}
+
+fn kind_of(seen: u64) -> Kind {
+    if seen & RAW != 0 {
+        return Kind::Raw;
+    }
+    if seen & HEX != 0 {
+        return Kind::Hex;
+    }
+    if seen & ELF != 0 {
+        return Kind::Elf;
+    }
+    Kind::Guess
+}
+
+// The order as it was read.
+fn order_of(k: usize, verb: Verb, p: Progress) -> Parsed
+    requires { ⌜ Sane k p ⌝ }
+    ensures { λ r. ⌜ Answer k r ⌝ }
+{
+    let file = p.file;
+    let section = p.section;
+    let rec_file = p.rec_file;
+    let kind = kind_of(p.seen);
+    Parsed::Do(Order {
+        verb,
+        file,
+        kind,
+        section,
+        length: p.length,
+        rec_file,
+        rec_at: p.rec_at,
+        stack_at: p.stack_at,
+        budget: p.budget,
+        trace: p.seen & TRACE != 0,
+    })
+}
+
+// What `run` needs besides its file. Standard input cannot be both the probe and the record.
+fn finish_run(args: &[u8], p: Progress) -> Parsed
+    requires { ⌜ Sane (length (now args)) p ⌝ }
+    ensures { λ r. ⌜ Answer (length (now (args .entry))) r ⌝ }
+{
+    if p.seen & RECORD_FILE == 0 {
+        return Parsed::Wrong {
+            fault: Fault::NoRecordFile,
+            at: Span { start: 0, end: 0 },
+        };
+    }
+    let file = p.file;
+    let start = file.start;
+    let end = file.end;
+    let rec_file = p.rec_file;
+    let first = rec_file.start;
+    let last = rec_file.end;
+    if is_dash(&args[start..end]) {
+        if is_dash(&args[first..last]) {
+            return Parsed::Wrong {
+                fault: Fault::TwoStdin,
+                at: file,
+            };
+        }
+    }
+    order_of(args.len(), Verb::Run, p)
+}
+
+fn finish_verb(args: &[u8], verb: Verb, p: Progress) -> Parsed
+    requires { ⌜ Sane (length (now args)) p ⌝ }
+    ensures { λ r. ⌜ Answer (length (now (args .entry))) r ⌝ }
+{
+    match verb {
+        Verb::Run => finish_run(args, p),
+        Verb::Show => order_of(args.len(), Verb::Show, p),
+        Verb::Verify | Verb::Explain => {
+            if p.seen & RECORD == 0 {
+                return Parsed::Wrong {
+                    fault: Fault::NoRecord,
+                    at: Span { start: 0, end: 0 },
+                };
+            }
+            order_of(args.len(), verb, p)
+        }
+    }
+}
+
+// All words are read: what each verb needs is there, or it is said what is missing.
+fn finish(args: &[u8], verb: Verb, p: Progress) -> Parsed
+    requires { ⌜ Sane (length (now args)) p ⌝ }
+    ensures { λ r. ⌜ Answer (length (now (args .entry))) r ⌝ }
+{
+    if p.seen & FILE == 0 {
+        return Parsed::Wrong {
+            fault: Fault::NoFile,
+            at: Span { start: 0, end: 0 },
+        };
+    }
+    if (p.seen & SECTION != 0) & (p.seen & (RAW | HEX) != 0) {
+        let section = p.section;
+        return Parsed::Wrong {
+            fault: Fault::SectionNeedsElf,
+            at: section,
+        };
+    }
+    finish_verb(args, verb, p)
+}
+
+fn stopped(k: usize, from: usize, verb: Verb, step: Step) -> Parsed
+    requires { ⌜ Stepped k from step ⌝ }
+    ensures { λ r. ⌜ Answer k r ⌝ }
+{
+    let Step::Stop { fault, at } = step else {
+        return Parsed::HelpOn(topic_of_verb(verb));
+    };
+    Parsed::Wrong { fault, at }
+}
+
+// The words of a verb, from `from` on.
+fn parse_words(args: &[u8], verb: Verb, from: usize) -> Parsed
+    requires { ⌜ from ≤ length (now args) ⌝ }
+    ensures { λ r. ⌜ Answer (length (now (args .entry))) r ⌝ }
+{
+    let none = Span { start: 0, end: 0 };
+    let allowed = options_of(verb);
+    let mut p = Progress {
+        next: from,
+        seen: 0,
+        file: none,
+        section: none,
+        rec_file: none,
+        length: 0,
+        rec_at: 1048576,
+        stack_at: 2097152,
+        budget: 4096,
+    };
+    let mut next = from;
+    while next < args.len() {
+        let step = take_word(args, allowed, p);
+        let Step::Go(q) = step else {
+            return stopped(args.len(), next, verb, step);
+        };
+        p = q;
+        next = q.next;
+    }
+    finish(args, verb, p)
+}
+
+// What comes after `help`: nothing, or one word that has a help text.
+fn parse_help(args: &[u8], from: usize) -> Parsed
+    requires { ⌜ from ≤ length (now args) ⌝ }
+    ensures { λ r. ⌜ Answer (length (now (args .entry))) r ⌝ }
+{
+    if from >= args.len() {
+        return Parsed::HelpOn(Topic::Whole);
+    }
+    let end = find(args, from, 0);
+    let next = next_word(args, end);
+    if next < args.len() {
+        return Parsed::Wrong {
+            fault: Fault::ExtraWord,
+            at: Span {
+                start: next,
+                end: find(args, next, 0),
+            },
+        };
+    }
+    let head = topic_of(&args[from..end]);
+    match head {
+        Head::Is(topic) => Parsed::HelpOn(topic),
+        Head::Not => Parsed::Wrong {
+            fault: Fault::UnknownVerb,
+            at: Span { start: from, end },
+        },
+    }
+}
+
+// `batch` is a program of its own: here is only its help text.
+fn parse_batch(args: &[u8], from: usize) -> Parsed
+    requires { ⌜ from ≤ length (now args) ⌝ }
+    ensures { λ r. ⌜ Answer (length (now (args .entry))) r ⌝ }
+{
+    let end = find(args, from, 0);
+    if option_of(&args[from..end]) == HELP {
+        return Parsed::HelpOn(Topic::Batch);
+    }
+    Parsed::Wrong {
+        fault: Fault::BatchAlone,
+        at: Span { start: from, end },
+    }
+}
+
+pub fn parse(args: &[u8]) -> Parsed
+    ensures { λ r. ⌜ Answer (length (now (args .entry))) r ⌝ }
+{
+    let end = find(args, 0, 0);
+    let next = next_word(args, end);
+    if args.len() == 0 {
+        return Parsed::Wrong {
+            fault: Fault::NoVerb,
+            at: Span { start: 0, end: 0 },
+        };
+    }
+    let head = topic_of(&args[0..end]);
+    let Head::Is(topic) = head else {
+        return Parsed::Wrong {
+            fault: Fault::UnknownVerb,
+            at: Span { start: 0, end },
+        };
+    };
+    match topic {
+        Topic::Whole => Parsed::HelpOn(Topic::Whole),
+        Topic::Help => parse_help(args, next),
+        Topic::Batch => parse_batch(args, next),
+        Topic::Verify => parse_words(args, Verb::Verify, next),
+        Topic::Explain => parse_words(args, Verb::Explain, next),
+        Topic::Run => parse_words(args, Verb::Run, next),
+        Topic::Show => parse_words(args, Verb::Show, next),
+    }
+}

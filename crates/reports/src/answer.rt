@@ -1,0 +1,55 @@
+// What the verifier answers, in a line.
+// Assumes nothing.
+ghost use Prim.Native.Nat.{_≤_};
+ghost use lib.ListN.{length};
+use crate::numbers::write_number;
+use analysis::Finding;
+use analysis::Reason;
+use explain::reason::sentence;
+use probewarden::number::reason_number;
+use text::page::write_letter;
+use verifier::Answer;
+
+fn write_sentence(out: &mut [u8], at: usize, reason: Reason) -> usize
+    requires { ⌜ at ≤ length (now out) ⌝ }
+    ensures { λ r. ⌜ (at ≤ r) × (r ≤ length (now (out .entry))) ⌝ }
+{
+    sentence(reason, out, at)
+}
+
+fn write_refusal(out: &mut [u8], reason: Reason, place: u64) -> usize
+    ensures { λ r. ⌜ r ≤ length (now (out .entry)) ⌝ }
+{
+    let a = write_number(out, 0, b"refused: reason ", reason_number(reason), b"");
+    let b = write_number(out, a, b" at instruction ", place, b": ");
+    let c = write_sentence(out, b, reason);
+    write_letter(out, c, b'\n')
+}
+
+fn finding_line(finding: Finding, n: u64, out: &mut [u8]) -> usize
+    ensures { λ r. ⌜ r ≤ length (now (out .entry)) ⌝ }
+{
+    match finding {
+        Finding::Accepted => write_number(out, 0, b"accepted: at most ", n, b" steps\n"),
+        Finding::Refused { reason, place } => write_refusal(out, reason, place),
+    }
+}
+
+// The answer on a program of n instructions.
+pub fn answer_line(answer: Answer, n: u64, out: &mut [u8]) -> usize
+    ensures { λ r. ⌜ r ≤ length (now (out .entry)) ⌝ }
+{
+    match answer {
+        Answer::Judgement(judged) => {
+            let finding = judged.finding;
+            finding_line(finding, n, out)
+        }
+        Answer::ScratchTooSmall { words } => write_number(
+            out,
+            0,
+            b"not verified: this takes ",
+            words,
+            b" words of scratch memory\n",
+        ),
+    }
+}

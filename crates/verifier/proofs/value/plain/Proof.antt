@@ -1,0 +1,16 @@
+-- `plain`: kind 2 is a number.
+-- Assumes nothing.
+use mathlib.Core.Path.{refl}
+use Rattle.verifier.specs.Scratch.{heldIn, ofKind}
+use Rattle.verifier.proofs.value.plain.Statement.{statement}
+use Rattle.verifier.proofs.value.plain.Tie as tie
+
+returns : tie.Need-returns
+unfolding heldIn ofKind
+returns c = refl
+
+pub plain-spec : {M : Type 1} → statement M
+plain-spec =
+    tie.close
+    (tie.spec
+    returns)
