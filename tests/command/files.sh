@@ -22,7 +22,7 @@ make_objects() {
     damaged "$1" nocode.o 496 '\000'
     damaged "$1" several.o 456 '\010'
     damaged "$1" outside.o 520 '\000\377'
-    damaged "$1" reloc.o 556 '\011'
+    damaged "$1" reloc.o 556 '\011\000\000\000'
     patch "$1/reloc.o" 596 '\003'
     head -c 3 examples/objects/prb_load.o >"$1/cut3.o"
     head -c 40 examples/objects/prb_load.o >"$1/cut40.o"
@@ -58,6 +58,7 @@ make_records() {
     printf '\004\000\000\000\000\000\000\000\000\000\000\000\052\000\000\000' >"$1/record"
     head -c 72 /dev/zero >"$1/zeros"
     head -c 1025 /dev/zero >"$1/wide"
+    head -c 2000 /dev/zero >"$1/wider"
 }
 
 make_files() {

@@ -20,6 +20,7 @@ use reports::answer::answer_line;
 use reports::outcome::outcome_line;
 use reports::outcome::refusal_line;
 use reports::trace::trace_step;
+use text::page::write_decimal;
 use text::page::write_text;
 use text::scan::same;
 use verifier::Answer;
@@ -51,6 +52,12 @@ fn stop(out: &[u8], n: usize)
     status(b'2');
 }
 
+// Ends because what was to be said could not be written.
+fn fail() {
+    os::fail(b"probewarden: standard output");
+    status(b'2');
+}
+
 // Ends with a line on standard output, whose status is `d` if it could be written.
 fn finish(out: &[u8], n: usize, d: u8)
     requires { ⌜ n ≤ length (now out) ⌝ }
@@ -59,8 +66,7 @@ fn finish(out: &[u8], n: usize, d: u8)
         status(d);
         return;
     }
-    os::fail(b"probewarden: standard output");
-    status(b'2');
+    fail();
 }
 
 // Says why the file at `path` cannot be read, as the system names it.
@@ -70,17 +76,19 @@ fn cannot_read(path: &[u8], out: &mut [u8]) {
     os::fail(&out[0..b]);
 }
 
-fn too_long(path: &[u8], out: &mut [u8]) {
+fn too_long(path: &[u8], room: usize, out: &mut [u8]) {
     let a = write_text(out, 0, b"probewarden: ");
     let b = write_text(out, a, path);
-    let c = write_text(out, b, b": the file is longer than what can be read\n");
-    say(2, out, c);
+    let c = write_text(out, b, b": the file has ");
+    let d = write_decimal(out, c, room as u64);
+    let e = write_text(out, d, b" bytes or more, which is too long\n");
+    say(2, out, e);
 }
 
 // Whether n bytes are all of a file: one that fills the buffer may go on, and of one that gives nothing the system may say why.
 fn is_whole(path: &[u8], n: usize, room: usize, out: &mut [u8]) -> bool {
     if n == room {
-        too_long(path, out);
+        too_long(path, room, out);
         return false;
     }
     if (n == 0) & (os::errno() != 0) {
@@ -138,7 +146,7 @@ fn show(program: &[u8], out: &mut [u8]) {
     let mut i = 0;
     while i < count {
         if !show_at(program, i, out) {
-            finish(out, 0, b'2');
+            fail();
             return;
         }
         i += 1;
@@ -230,7 +238,10 @@ fn trace(program: &[u8], rec: &[u8], p: u64, s: u64, budget: u64, stack: &mut [u
             return;
         }
         match next {
-            Next::Go { pc: onward, live: set } => {
+            Next::Go {
+                pc: onward,
+                live: set,
+            } => {
                 pc = onward;
                 live = set;
             }
@@ -424,7 +435,17 @@ fn obey(
         status(b'2');
         return;
     }
-    open(args, &file[0..n], order, bare, spelled, scratch, rec, stack, out);
+    open(
+        args,
+        &file[0..n],
+        order,
+        bare,
+        spelled,
+        scratch,
+        rec,
+        stack,
+        out,
+    );
 }
 
 fn serve(

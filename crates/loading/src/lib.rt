@@ -93,13 +93,7 @@ fn guess(file: &[u8]) -> Kind {
     Kind::Raw
 }
 
-fn load_kind(
-    file: &[u8],
-    kind: Kind,
-    name: &[u8],
-    bare: &mut [u8],
-    program: &mut [u8],
-) -> Loaded
+fn load_kind(file: &[u8], kind: Kind, name: &[u8], bare: &mut [u8], program: &mut [u8]) -> Loaded
     ensures { λ r. ⌜ Inside (length (now (file .entry))) (length (now (program .entry))) r ⌝ }
 {
     match kind {
@@ -127,13 +121,7 @@ fn meant(file: &[u8], kind: Kind, name: &[u8]) -> Kind {
 
 // The program in a file of the kind, or of the kind that its bytes look like. `bare` is scratch memory for the digits of a text; it should
 // be as long as the file.
-pub fn load(
-    file: &[u8],
-    kind: Kind,
-    name: &[u8],
-    bare: &mut [u8],
-    program: &mut [u8],
-) -> Loaded
+pub fn load(file: &[u8], kind: Kind, name: &[u8], bare: &mut [u8], program: &mut [u8]) -> Loaded
     ensures { λ r. ⌜ Inside (length (now (file .entry))) (length (now (program .entry))) r ⌝ }
 {
     if file.len() == 0 {

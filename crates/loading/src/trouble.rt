@@ -176,7 +176,13 @@ fn write_object(out: &mut [u8], at: usize, file: &[u8], name: &[u8], section: Se
         Section::SeveralCodes { first, second } => write_several(out, at, file, first, second),
         Section::NoSuchName => write_missing(out, at, name),
         Section::NotCode { number } => {
-            write_about(out, at, file, number, b" holds no program: it is not executable")
+            write_about(
+                out,
+                at,
+                file,
+                number,
+                b" holds no program: it is not executable",
+            )
         }
         Section::EmptyCode { number } => write_about(out, at, file, number, b" is empty"),
         Section::Relocated { number, by } => write_relocated(out, at, file, number, by),

@@ -350,10 +350,9 @@ fn write_fault(
         ),
         Fault::UnknownOption | Fault::NotForVerb | Fault::Twice | Fault::TwoKinds =>
             write_of_option(args, fault, start, end, out, at),
-        Fault::MissingValue
-        | Fault::UnwantedValue
-        | Fault::NotANumber
-        | Fault::EmptySection => { write_of_value(args, fault, start, end, out, at) }
+        Fault::MissingValue | Fault::UnwantedValue | Fault::NotANumber | Fault::EmptySection => {
+            write_of_value(args, fault, start, end, out, at)
+        }
         Fault::TwoFiles | Fault::SectionNeedsElf | Fault::TwoStdin => write_of_clash(
             args,
             fault,

@@ -75,7 +75,13 @@ fn write_address(out: &mut [u8], option: &[u8], a: u64) -> usize
 {
     let o = write_text(out, 0, b"probewarden: not run: ");
     let o = write_word(out, o, option, a, b"");
-    write_word(out, o, b" is not between 0x10000 and ", 140737488355328, b"\n")
+    write_word(
+        out,
+        o,
+        b" is not between 0x10000 and ",
+        140737488355328,
+        b"\n",
+    )
 }
 
 // Why a run is refused: by the length of the program, by that of the record, by an address, or because the two regions overlap.

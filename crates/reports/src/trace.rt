@@ -46,7 +46,15 @@ fn write_register(out: &mut [u8], at: usize, old: u64, new: u64, fresh: bool, k:
     write_word(out, a, b"", new, b"")
 }
 
-fn write_change(out: &mut [u8], at: usize, before: &[u64], after: &[u64], old: u64, new: u64, k: usize) -> usize
+fn write_change(
+    out: &mut [u8],
+    at: usize,
+    before: &[u64],
+    after: &[u64],
+    old: u64,
+    new: u64,
+    k: usize,
+) -> usize
     requires { ⌜ at ≤ length (now out) ⌝ }
     ensures { λ r. ⌜ (at ≤ r) × (r ≤ length (now (out .entry))) ⌝ }
 {
@@ -54,7 +62,14 @@ fn write_change(out: &mut [u8], at: usize, before: &[u64], after: &[u64], old: u
     write_register(out, at, word_at(before, k), word_at(after, k), fresh, k)
 }
 
-fn write_changes(out: &mut [u8], at: usize, before: &[u64], after: &[u64], old: u64, new: u64) -> usize
+fn write_changes(
+    out: &mut [u8],
+    at: usize,
+    before: &[u64],
+    after: &[u64],
+    old: u64,
+    new: u64,
+) -> usize
     requires { ⌜ at ≤ length (now out) ⌝ }
     ensures { λ r. ⌜ (at ≤ r) × (r ≤ length (now (out .entry))) ⌝ }
 {
@@ -83,7 +98,14 @@ fn write_fault(out: &mut [u8], at: usize, fault: u64) -> usize
     put_fault(out, at, fault)
 }
 
-fn write_next(out: &mut [u8], at: usize, before: &[u64], after: &[u64], old: u64, next: Next) -> usize
+fn write_next(
+    out: &mut [u8],
+    at: usize,
+    before: &[u64],
+    after: &[u64],
+    old: u64,
+    next: Next,
+) -> usize
     requires { ⌜ at ≤ length (now out) ⌝ }
     ensures { λ r. ⌜ (at ≤ r) × (r ≤ length (now (out .entry))) ⌝ }
 {
