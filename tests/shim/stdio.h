@@ -5,6 +5,11 @@
 
 #include <stddef.h>
 
+typedef struct shim_file FILE;
+
+FILE *fopen(const char *path, const char *mode);
+size_t fread(void *to, size_t size, size_t count, FILE *from);
+int fclose(FILE *file);
 int printf(const char *format, ...) __attribute__((format(printf, 1, 2)));
 
 #endif

@@ -5,6 +5,9 @@
 
 #include <stddef.h>
 
+void *malloc(size_t size);
+void free(void *block);
+__attribute__((noreturn)) void exit(int status);
 unsigned long long strtoull(const char *text, char **end, int base);
 
 #endif
