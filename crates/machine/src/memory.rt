@@ -20,12 +20,6 @@ pub enum Place {
     Outside,
 }
 
-fn wide(x: u8) -> u64
-    ensures { λ r. ⌜ (r ≡ x) × (r < 256) ⌝ }
-{
-    x as u64
-}
-
 fn byte_count(size: Size) -> usize
     ensures { λ r. ⌜ (r ≡ bytes size) × (r ≤ 8) ⌝ }
 {
@@ -54,18 +48,25 @@ fn locate(base: u64, len: usize, a: u64, n: usize) -> Place
     Place::At(i)
 }
 
-// The number that n bytes at i spell, put together byte by byte from the highest.
-fn join(m: &[u8], i: usize, n: usize) -> u64
-    requires { ⌜ (i + n ≤ length (now m)) × (n ≤ 8) ⌝ }
-    ensures { λ r. ⌜ r ≡ readBytes n (now (m .entry)) i ⌝ }
+fn fetch1(m: &[u8], i: usize) -> u64
+    requires { ⌜ i + 1 ≤ length (now m) ⌝ }
+    ensures { λ r. ⌜ r ≡ readBytes 1 (now (m .entry)) i ⌝ }
 {
-    let mut x: u64 = 0;
-    let mut k = n;
-    while 0 < k {
-        k -= 1;
-        x = (x << 8) + wide(m[i + k]);
-    }
-    x
+    m[i] as u64
+}
+
+fn fetch2(m: &[u8], i: usize) -> u64
+    requires { ⌜ i + 2 ≤ length (now m) ⌝ }
+    ensures { λ r. ⌜ r ≡ readBytes 2 (now (m .entry)) i ⌝ }
+{
+    fetch1(m, i) | (fetch1(m, i + 1) << 8)
+}
+
+fn fetch4(m: &[u8], i: usize) -> u64
+    requires { ⌜ i + 4 ≤ length (now m) ⌝ }
+    ensures { λ r. ⌜ r ≡ readBytes 4 (now (m .entry)) i ⌝ }
+{
+    fetch2(m, i) | (fetch2(m, i + 2) << 16)
 }
 
 // The number that the eight bytes at i spell.
@@ -73,14 +74,20 @@ pub fn fetch(m: &[u8], i: usize) -> u64
     requires { ⌜ i + 8 ≤ length (now m) ⌝ }
     ensures { λ r. ⌜ r ≡ readBytes 8 (now (m .entry)) i ⌝ }
 {
-    wide(m[i])
-        | (wide(m[i + 1]) << 8)
-        | (wide(m[i + 2]) << 16)
-        | (wide(m[i + 3]) << 24)
-        | (wide(m[i + 4]) << 32)
-        | (wide(m[i + 5]) << 40)
-        | (wide(m[i + 6]) << 48)
-        | (wide(m[i + 7]) << 56)
+    fetch4(m, i) | (fetch4(m, i + 4) << 32)
+}
+
+// The number that the bytes of a size at i spell.
+fn get(m: &[u8], i: usize, size: Size) -> u64
+    requires { ⌜ i + bytes size ≤ length (now m) ⌝ }
+    ensures { λ r. ⌜ r ≡ readBytes (bytes size) (now (m .entry)) i ⌝ }
+{
+    match size {
+        Size::One => fetch1(m, i),
+        Size::Two => fetch2(m, i),
+        Size::Four => fetch4(m, i),
+        Size::Eight => fetch(m, i),
+    }
 }
 
 // What a load at the address a finds, in the record or in the stack.
@@ -89,9 +96,9 @@ pub fn load(rec: &[u8], stack: &[u8], p: u64, s: u64, a: u64, size: Size) -> Loa
 {
     let n = byte_count(size);
     match locate(p, rec.len(), a, n) {
-        Place::At(i) => Loaded::Value(join(rec, i, n)),
+        Place::At(i) => Loaded::Value(get(rec, i, size)),
         Place::Outside => match locate(s, stack.len(), a, n) {
-            Place::At(i) => Loaded::Value(join(stack, i, n)),
+            Place::At(i) => Loaded::Value(get(stack, i, size)),
             Place::Outside => Loaded::Nowhere,
         },
     }
