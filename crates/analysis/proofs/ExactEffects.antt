@@ -77,7 +77,7 @@ small-cell (number n) h = h .bits .fits
 small-cell (offset p o) h = h .1 .bits .fits
 
 -- writing what is there changes nothing
-set-get : {A : Type 0} (l : List A) (d : ℕ) (none-there x : A) → getD l d none-there ≡ x → set l d x ≡ l
+pub set-get : {A : Type 0} (l : List A) (d : ℕ) (none-there x : A) → getD l d none-there ≡ x → set l d x ≡ l
 set-get [] d n x e = refl
 set-get (y ∷ l) zero n x e = ap (λ z. z ∷ l) (sym e)
 set-get (y ∷ l) (suc d) n x e = ap (λ m. y ∷ m) (set-get l d n x e)

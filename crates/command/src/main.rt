@@ -224,7 +224,7 @@ fn judge(program: &[u8], rlen: u64, scratch: &mut [u64], out: &mut [u8]) {
 fn trace(program: &[u8], rec: &[u8], p: u64, s: u64, budget: u64, stack: &mut [u8], out: &mut [u8])
     requires { ⌜ s ≤ 140737488355328 ⌝ }
 {
-    let mut regs = [0u64; 11];
+    let mut regs = [0u64; 16];
     regs[1] = p;
     regs[10] = s + 512;
     let mut pc: u64 = 0;
@@ -248,7 +248,7 @@ fn trace(program: &[u8], rec: &[u8], p: u64, s: u64, budget: u64, stack: &mut [u
             Next::Exit(_) => {
                 return;
             }
-            Next::Stop(_) => {
+            Next::Stop => {
                 return;
             }
         }

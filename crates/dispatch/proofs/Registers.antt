@@ -1,20 +1,20 @@
 -- The registers as the interpreter keeps them: what one has, and what they are after one is written. Assumes nothing.
 use mathlib.Core.Path.{_≡_, refl, sym, ap, ap₂, _∙_}
-use mathlib.Core.Bool.{Bool, true, false, cond, not}
-use mathlib.Core.List.{List, [], _∷_}
+use mathlib.Core.Bool.{Bool, true, false, cond, not, true≢false}
+use mathlib.Core.List.{List, _∷_}
 use Prim.Native.Nat.{ℕ, zero, suc, _+_, _*_, _%_, _^_, _≤_, _<_}
-use native.Mathlib.Nat.{add-zero, not-suc-le-zero}
+use native.Mathlib.Nat.{add-zero, not-suc-le-zero, lt-of-lt-of-le}
 use native.Mathlib.Omega.{arith}
 use native.Mathlib.Decide.{decLt}
 use lib.ListN.{length, getD, set}
 use lib.Seq.{getD-set-same, getD-set-other}
 use lib.Dec.{eqb, lit<}
-use lib.Pow.{shl-exact}
-use lib.Bits.{bitOr}
-use borrow.Author.Tests.{eqb-true, eqb-false, eq-eqb, ne-eqb}
+use lib.Pow.{shl-exact, pow-lt, pow-mono}
+use lib.Bits.{bitOr, or-lt}
+use borrow.Author.Tests.{eq-eqb}
 use Rattle.word.specs.Word.{bit}
-use Rattle.word.proofs.Bit.{bit-lt, bit-or, bit-pow, bit-pow-other}
-use Rattle.machine.specs.Machine.{Content, Unset, Holds, State, content, held, value, put}
+use Rattle.word.proofs.Bit.{bit-lt, bit-or, bit-high, bit-pow, bit-pow-other}
+use Rattle.machine.specs.Machine.{Content, Unset, Holds, content, held, value, isUnset, put}
 use Rattle.dispatch.specs.Represent.{isSet, contentOf, contents, stateOf}
 
 -- ---- the mask
@@ -34,6 +34,19 @@ module _ (live r : ℕ) where
       let e : bit s (bitOr live (2 ^ r)) ≡ bit s live = rw (bit-or s live (2 ^ r), bit-pow-other s r other) (omega arith) in
       ap (λ (b : ℕ). eqb b 1) e
 
+-- a register above 10 is never set
+pub narrow-after : (live r : ℕ) → live < 2 ^ 11 → r ≤ 10 → bitOr live (2 ^ r) < 2 ^ 11
+narrow-after live r narrow h = or-lt 11 live (2 ^ r) narrow (pow-lt {i = r} {j = 11} (omega arith))
+
+pub above-unset : (live r : ℕ) → live < 2 ^ 11 → 10 < r → isSet live r ≡ false
+unfolding isSet
+above-unset live r narrow h = rw (bit-high r live (lt-of-lt-of-le narrow (pow-mono h)))
+
+-- nor is one that no bit of a word stands for
+pub beyond-unset : (live r : ℕ) → live < 2 ^ 64 → 64 ≤ r → true ≡ not (isSet live r)
+unfolding isSet
+beyond-unset live r fits h = rw (bit-high r live (lt-of-lt-of-le fits (pow-mono h)))
+
 -- ---- one register
 
 module _ (numbers : List ℕ) (live : ℕ) where
@@ -44,6 +57,12 @@ module _ (numbers : List ℕ) (live : ℕ) where
   get-contents (suc n) k (suc i) h =
       let e : k + 1 + i ≡ k + suc i = omega arith in get-contents n (k + 1) i (omega arith) ∙ ap (contentOf numbers live) e
 
+  no-more-contents : (n k i : ℕ) → n ≤ i → getD (contents n k numbers live) i Unset ≡ Unset
+  unfolding contents
+  no-more-contents zero k i h = refl
+  no-more-contents (suc n) k zero h = absurd (not-suc-le-zero h)
+  no-more-contents (suc n) k (suc i) h = no-more-contents n (k + 1) i (omega arith)
+
   pub content-is : (stack : List ℕ) (index r : ℕ) → r ≤ 10 → content (stateOf numbers live stack index) r ≡ contentOf numbers live r
   unfolding content stateOf
   content-is stack index r h =
@@ -52,6 +71,35 @@ module _ (numbers : List ℕ) (live : ℕ) where
   pub value-is : (stack : List ℕ) (index r : ℕ) → r ≤ 10 → isSet live r ≡ true → value (stateOf numbers live stack index) r ≡ getD numbers r 0
   unfolding value held contentOf
   value-is stack index r h e = rw (content-is stack index r h, e)
+
+unset-is : (b : Bool) (n : ℕ) → isUnset (cond b (Holds n) Unset) ≡ not b
+unfolding isUnset
+unset-is true n = refl
+unset-is false n = refl
+
+-- a register is unset where the mask says so, one above 10 too
+module _ (numbers : List ℕ) (live : ℕ) (narrow : live < 2 ^ 11) (stack : List ℕ) (index r : ℕ) where
+  below-unset : r ≤ 10 → isUnset (content (stateOf numbers live stack index) r) ≡ not (isSet live r)
+  unfolding contentOf
+  below-unset h = ap isUnset (content-is numbers live stack index r h) ∙ unset-is (isSet live r) (getD numbers r 0)
+
+  none-above : 10 < r → isUnset (content (stateOf numbers live stack index) r) ≡ not (isSet live r)
+  unfolding content stateOf isUnset
+  none-above h = rw (no-more-contents numbers live 11 0 r h, above-unset live r narrow h)
+
+  pub is-unset : isUnset (content (stateOf numbers live stack index) r) ≡ not (isSet live r)
+  is-unset = by-test (decLt 10 r)
+    where
+      by-test : Dec (10 < r) → isUnset (content (stateOf numbers live stack index) r) ≡ not (isSet live r)
+      by-test (yes h) = none-above h
+      by-test (no h) = below-unset (omega arith)
+
+  pub set-named : isSet live r ≡ true → r ≤ 10
+  set-named e = by-test (decLt 10 r)
+    where
+      by-test : Dec (10 < r) → r ≤ 10
+      by-test (yes h) = absurd (true≢false (sym e ∙ above-unset live r narrow h))
+      by-test (no h) = omega arith
 
 -- ---- the registers after one is written
 
@@ -76,7 +124,7 @@ module _ (numbers numbers′ : List ℕ) (live live′ : ℕ) where
       (set-contents n (k + 1) i v (omega arith) (ap (contentOf numbers′ live′) e ∙ written) (λ r f. others r (λ g. f (g ∙ sym e))))
 
 -- dst holds v: the mask has it set, and what it says of the others is as before
-module _ (numbers : List ℕ) (live live′ dst v : ℕ) (named : dst ≤ 10) (eleven : length numbers ≡ 11)
+module _ (numbers : List ℕ) (live live′ dst v : ℕ) (named : dst ≤ 10) (sixteen : length numbers ≡ 16)
     (is-set : isSet live′ dst ≡ true) (others : (r : ℕ) → (r ≡ dst → ⊥) → isSet live′ r ≡ isSet live r) where
   dst-holds : contentOf (set numbers dst v) live′ dst ≡ Holds v
   unfolding contentOf

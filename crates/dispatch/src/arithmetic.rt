@@ -2,20 +2,19 @@
 // Each contract leaves the stack open, since none of these functions sees it. Assumes nothing.
 ghost use mathlib.Core.Path.{_≡_};
 ghost use mathlib.Core.Bool.{true, false, not, _&&_, _||_};
-ghost use Prim.Native.Nat.{_≤_};
+ghost use Prim.Native.Nat.{_<_};
 ghost use lib.ListN.{length};
-ghost use lib.Dec.{eqb};
+ghost use lib.Dec.{leb, eqb};
 ghost use Rattle.machine.specs.Machine.{goes, put};
-ghost use Rattle.dispatch.specs.Represent.{isSet, guarded, Puts, Named};
-use crate::answer::Early;
+ghost use Rattle.dispatch.specs.Represent.{isSet, guarded, Puts, Kept};
 use crate::answer::Next;
 use crate::answer::has;
-use crate::answer::tested;
 
 // dst, which may have been unset, becomes v.
-pub fn keep(v: u64, dst: u64, pc: u64, live: u64, regs: &mut [u64; 11]) -> Next
-    requires { ⌜ length (now regs) ≡ 11 ⌝ }
-    requires { ⌜ Named dst pc ⌝ }
+pub fn keep(v: u64, dst: u64, pc: u64, live: u64, regs: &mut [u64; 16]) -> Next
+    requires { ⌜ length (now regs) ≡ 16 ⌝ }
+    requires { ⌜ Kept live pc ⌝ }
+    requires { ⌜ dst < 10 ⌝ }
     ensures { λ r. ⌜ Puts r (now (regs .entry)) (now (regs .exit)) live pc (λ t. goes (put t dst v)) ⌝ }
 {
     let i = dst as usize;
@@ -27,9 +26,10 @@ pub fn keep(v: u64, dst: u64, pc: u64, live: u64, regs: &mut [u64; 11]) -> Next
 }
 
 // dst, which is set, becomes v: the mask stays, which spares two instructions.
-fn change(v: u64, dst: u64, pc: u64, live: u64, regs: &mut [u64; 11]) -> Next
-    requires { ⌜ length (now regs) ≡ 11 ⌝ }
-    requires { ⌜ Named dst pc ⌝ }
+fn change(v: u64, dst: u64, pc: u64, live: u64, regs: &mut [u64; 16]) -> Next
+    requires { ⌜ length (now regs) ≡ 16 ⌝ }
+    requires { ⌜ Kept live pc ⌝ }
+    requires { ⌜ dst < 10 ⌝ }
     requires { ⌜ isSet live dst ≡ true ⌝ }
     ensures { λ r. ⌜ Puts r (now (regs .entry)) (now (regs .exit)) live pc (λ t. goes (put t dst v)) ⌝ }
 {
@@ -46,16 +46,23 @@ pub fn put_immediate(
     off: u64,
     pc: u64,
     live: u64,
-    regs: &mut [u64; 11],
+    regs: &mut [u64; 16],
 ) -> Next
-    requires { ⌜ length (now regs) ≡ 11 ⌝ }
-    requires { ⌜ Named dst pc ⌝ }
-    ensures { λ r. ⌜ Puts r (now (regs .entry)) (now (regs .exit)) live pc (λ t. guarded (eqb off 0 && eqb src 0) (eqb dst 10) (not (isSet live dst)) (goes (put t dst v))) ⌝ }
+    requires { ⌜ length (now regs) ≡ 16 ⌝ }
+    requires { ⌜ Kept live pc ⌝ }
+    requires { ⌜ dst < 16 ⌝ }
+    ensures { λ r. ⌜ Puts r (now (regs .entry)) (now (regs .exit)) live pc (λ t. guarded (eqb off 0 && eqb src 0) (leb 10 dst) (not (isSet live dst)) (goes (put t dst v))) ⌝ }
 {
-    match tested((off == 0) & (src == 0), dst == 10, !has(live, dst)) {
-        Early::Because(c) => Next::Stop(c),
-        Early::Nothing => change(v, dst, pc, live, regs),
+    if !((off == 0) & (src == 0)) {
+        return Next::Stop;
     }
+    if 10 <= dst {
+        return Next::Stop;
+    }
+    if !has(live, dst) {
+        return Next::Stop;
+    }
+    change(v, dst, pc, live, regs)
 }
 
 // An operation on dst and src.
@@ -67,21 +74,26 @@ pub fn put_register(
     imm: u64,
     pc: u64,
     live: u64,
-    regs: &mut [u64; 11],
+    regs: &mut [u64; 16],
 ) -> Next
-    requires { ⌜ length (now regs) ≡ 11 ⌝ }
-    requires { ⌜ Named dst pc ⌝ }
-    requires { ⌜ src ≤ 10 ⌝ }
-    ensures { λ r. ⌜ Puts r (now (regs .entry)) (now (regs .exit)) live pc (λ t. guarded (eqb off 0 && eqb imm 0) (eqb dst 10) (not (isSet live dst) || not (isSet live src)) (goes (put t dst v))) ⌝ }
+    requires { ⌜ length (now regs) ≡ 16 ⌝ }
+    requires { ⌜ Kept live pc ⌝ }
+    requires { ⌜ (dst < 16) × (src < 16) ⌝ }
+    ensures { λ r. ⌜ Puts r (now (regs .entry)) (now (regs .exit)) live pc (λ t. guarded (eqb off 0 && eqb imm 0) (leb 10 dst) (not (isSet live dst) || not (isSet live src)) (goes (put t dst v))) ⌝ }
 {
-    match tested(
-        (off == 0) & (imm == 0),
-        dst == 10,
-        !has(live, dst) | !has(live, src),
-    ) {
-        Early::Because(c) => Next::Stop(c),
-        Early::Nothing => change(v, dst, pc, live, regs),
+    if !((off == 0) & (imm == 0)) {
+        return Next::Stop;
     }
+    if 10 <= dst {
+        return Next::Stop;
+    }
+    if !has(live, dst) {
+        return Next::Stop;
+    }
+    if !has(live, src) {
+        return Next::Stop;
+    }
+    change(v, dst, pc, live, regs)
 }
 
 // MOV of imm: dst is not read.
@@ -92,16 +104,20 @@ pub fn move_immediate(
     off: u64,
     pc: u64,
     live: u64,
-    regs: &mut [u64; 11],
+    regs: &mut [u64; 16],
 ) -> Next
-    requires { ⌜ length (now regs) ≡ 11 ⌝ }
-    requires { ⌜ Named dst pc ⌝ }
-    ensures { λ r. ⌜ Puts r (now (regs .entry)) (now (regs .exit)) live pc (λ t. guarded (eqb off 0 && eqb src 0) (eqb dst 10) false (goes (put t dst v))) ⌝ }
+    requires { ⌜ length (now regs) ≡ 16 ⌝ }
+    requires { ⌜ Kept live pc ⌝ }
+    requires { ⌜ dst < 16 ⌝ }
+    ensures { λ r. ⌜ Puts r (now (regs .entry)) (now (regs .exit)) live pc (λ t. guarded (eqb off 0 && eqb src 0) (leb 10 dst) false (goes (put t dst v))) ⌝ }
 {
-    match tested((off == 0) & (src == 0), dst == 10, false) {
-        Early::Because(c) => Next::Stop(c),
-        Early::Nothing => keep(v, dst, pc, live, regs),
+    if !((off == 0) & (src == 0)) {
+        return Next::Stop;
     }
+    if 10 <= dst {
+        return Next::Stop;
+    }
+    keep(v, dst, pc, live, regs)
 }
 
 // MOV of src: dst is not read.
@@ -113,17 +129,23 @@ pub fn move_register(
     imm: u64,
     pc: u64,
     live: u64,
-    regs: &mut [u64; 11],
+    regs: &mut [u64; 16],
 ) -> Next
-    requires { ⌜ length (now regs) ≡ 11 ⌝ }
-    requires { ⌜ Named dst pc ⌝ }
-    requires { ⌜ src ≤ 10 ⌝ }
-    ensures { λ r. ⌜ Puts r (now (regs .entry)) (now (regs .exit)) live pc (λ t. guarded (eqb off 0 && eqb imm 0) (eqb dst 10) (not (isSet live src)) (goes (put t dst v))) ⌝ }
+    requires { ⌜ length (now regs) ≡ 16 ⌝ }
+    requires { ⌜ Kept live pc ⌝ }
+    requires { ⌜ (dst < 16) × (src < 16) ⌝ }
+    ensures { λ r. ⌜ Puts r (now (regs .entry)) (now (regs .exit)) live pc (λ t. guarded (eqb off 0 && eqb imm 0) (leb 10 dst) (not (isSet live src)) (goes (put t dst v))) ⌝ }
 {
-    match tested((off == 0) & (imm == 0), dst == 10, !has(live, src)) {
-        Early::Because(c) => Next::Stop(c),
-        Early::Nothing => keep(v, dst, pc, live, regs),
+    if !((off == 0) & (imm == 0)) {
+        return Next::Stop;
     }
+    if 10 <= dst {
+        return Next::Stop;
+    }
+    if !has(live, src) {
+        return Next::Stop;
+    }
+    keep(v, dst, pc, live, regs)
 }
 
 // NEG of dst.
@@ -135,18 +157,21 @@ pub fn negate(
     imm: u64,
     pc: u64,
     live: u64,
-    regs: &mut [u64; 11],
+    regs: &mut [u64; 16],
 ) -> Next
-    requires { ⌜ length (now regs) ≡ 11 ⌝ }
-    requires { ⌜ Named dst pc ⌝ }
-    ensures { λ r. ⌜ Puts r (now (regs .entry)) (now (regs .exit)) live pc (λ t. guarded (eqb off 0 && (eqb src 0 && eqb imm 0)) (eqb dst 10) (not (isSet live dst)) (goes (put t dst v))) ⌝ }
+    requires { ⌜ length (now regs) ≡ 16 ⌝ }
+    requires { ⌜ Kept live pc ⌝ }
+    requires { ⌜ dst < 16 ⌝ }
+    ensures { λ r. ⌜ Puts r (now (regs .entry)) (now (regs .exit)) live pc (λ t. guarded (eqb off 0 && (eqb src 0 && eqb imm 0)) (leb 10 dst) (not (isSet live dst)) (goes (put t dst v))) ⌝ }
 {
-    match tested(
-        (off == 0) & ((src == 0) & (imm == 0)),
-        dst == 10,
-        !has(live, dst),
-    ) {
-        Early::Because(c) => Next::Stop(c),
-        Early::Nothing => change(v, dst, pc, live, regs),
+    if !((off == 0) & ((src == 0) & (imm == 0))) {
+        return Next::Stop;
     }
+    if 10 <= dst {
+        return Next::Stop;
+    }
+    if !has(live, dst) {
+        return Next::Stop;
+    }
+    change(v, dst, pc, live, regs)
 }

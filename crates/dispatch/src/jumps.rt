@@ -1,20 +1,18 @@
 // The formats of class 5: the tests, then the next index, or the verdict.
 // Each contract leaves registers and stack open, since none of these functions sees them. Assumes nothing.
 ghost use mathlib.Core.Bool.{true, false, not, _&&_, _||_};
-ghost use Prim.Native.Nat.{ℕ, _≤_, _<_, _^_};
+ghost use Prim.Native.Nat.{ℕ, _<_};
 ghost use lib.Dec.{eqb};
 ghost use Rattle.word.specs.Word.{extend};
 ghost use Rattle.machine.specs.Machine.{goes, ends, jumped};
-ghost use Rattle.dispatch.specs.Represent.{isSet, guarded, Turns, Named};
-use crate::answer::Early;
+ghost use Rattle.dispatch.specs.Represent.{isSet, guarded, Turns, Kept};
 use crate::answer::Next;
 use crate::answer::has;
-use crate::answer::tested;
 use word::sign::extend16;
 
 // The index after a jump, taken or not. A taken one has its own return: that is one instruction less.
 fn go(taken: bool, off: u64, pc: u64, live: u64) -> Next
-    requires { ⌜ pc < 2 ^ 63 ⌝ }
+    requires { ⌜ Kept live pc ⌝ }
     ensures { λ r. ⌜ Turns r live pc (λ t. goes (jumped taken t (extend 16 off))) ⌝ }
 {
     if taken {
@@ -28,13 +26,17 @@ fn go(taken: bool, off: u64, pc: u64, live: u64) -> Next
 
 // A jump that compares dst with imm.
 pub fn jump_immediate(taken: bool, dst: u64, src: u64, off: u64, pc: u64, live: u64) -> Next
-    requires { ⌜ Named dst pc ⌝ }
+    requires { ⌜ Kept live pc ⌝ }
+    requires { ⌜ dst < 16 ⌝ }
     ensures { λ r. ⌜ Turns r live pc (λ t. guarded (eqb src 0) false (not (isSet live dst)) (goes (jumped taken t (extend 16 off)))) ⌝ }
 {
-    match tested(src == 0, false, !has(live, dst)) {
-        Early::Because(c) => Next::Stop(c),
-        Early::Nothing => go(taken, off, pc, live),
+    if !(src == 0) {
+        return Next::Stop;
     }
+    if !has(live, dst) {
+        return Next::Stop;
+    }
+    go(taken, off, pc, live)
 }
 
 // A jump that compares dst with src.
@@ -47,36 +49,42 @@ pub fn jump_register(
     pc: u64,
     live: u64,
 ) -> Next
-    requires { ⌜ (dst ≤ 10) × (src ≤ 10) × (pc < 2 ^ 63) ⌝ }
+    requires { ⌜ Kept live pc ⌝ }
+    requires { ⌜ (dst < 16) × (src < 16) ⌝ }
     ensures { λ r. ⌜ Turns r live pc (λ t. guarded (eqb imm 0) false (not (isSet live dst) || not (isSet live src)) (goes (jumped taken t (extend 16 off)))) ⌝ }
 {
-    match tested(imm == 0, false, !has(live, dst) | !has(live, src)) {
-        Early::Because(c) => Next::Stop(c),
-        Early::Nothing => go(taken, off, pc, live),
+    if !(imm == 0) {
+        return Next::Stop;
     }
+    if !has(live, dst) {
+        return Next::Stop;
+    }
+    if !has(live, src) {
+        return Next::Stop;
+    }
+    go(taken, off, pc, live)
 }
 
 // JA.
 pub fn jump_always(dst: u64, src: u64, off: u64, imm: u64, pc: u64, live: u64) -> Next
-    requires { ⌜ pc < 2 ^ 63 ⌝ }
+    requires { ⌜ Kept live pc ⌝ }
     ensures { λ r. ⌜ Turns r live pc (λ t. guarded (eqb dst 0 && eqb src 0 && eqb imm 0) false false (goes (jumped true t (extend 16 off)))) ⌝ }
 {
-    match tested((dst == 0) & (src == 0) & (imm == 0), false, false) {
-        Early::Because(c) => Next::Stop(c),
-        Early::Nothing => go(true, off, pc, live),
+    if !((dst == 0) & (src == 0) & (imm == 0)) {
+        return Next::Stop;
     }
+    go(true, off, pc, live)
 }
 
 // EXIT, with the value of r0.
 pub fn exit(v: u64, dst: u64, src: u64, off: u64, imm: u64, live: u64) -> Next
     ensures { λ r. ⌜ ((pc : ℕ) → Turns r live pc (λ t. guarded (eqb dst 0 && eqb src 0 && eqb imm 0 && eqb off 0) false (not (isSet live 0)) (ends v))) ⌝ }
 {
-    match tested(
-        (dst == 0) & (src == 0) & (imm == 0) & (off == 0),
-        false,
-        !has(live, 0),
-    ) {
-        Early::Because(c) => Next::Stop(c),
-        Early::Nothing => Next::Exit(v),
+    if !((dst == 0) & (src == 0) & (imm == 0) & (off == 0)) {
+        return Next::Stop;
     }
+    if !has(live, 0) {
+        return Next::Stop;
+    }
+    Next::Exit(v)
 }

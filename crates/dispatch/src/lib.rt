@@ -5,3 +5,4 @@ pub mod arithmetic;
 pub mod jumps;
 pub mod memory;
 pub mod obey;
+pub mod why;

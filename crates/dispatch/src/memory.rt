@@ -3,22 +3,19 @@
 ghost use mathlib.Core.Path.{_≡_};
 ghost use mathlib.Core.Bool.{true, false, not, _||_};
 ghost use mathlib.Core.List.{List};
-ghost use Prim.Native.Nat.{ℕ, _≤_, _<_, _^_};
+ghost use Prim.Native.Nat.{ℕ, _<_};
 ghost use lib.ListN.{length};
-ghost use lib.Dec.{eqb};
+ghost use lib.Dec.{leb, eqb};
 ghost use Rattle.word.specs.Word.{extend};
 ghost use Rattle.machine.specs.Machine.{address, loaded, afterLoad, afterStore};
-ghost use Rattle.dispatch.specs.Represent.{isSet, guarded, LeadsOn, Stores, Named};
-use crate::answer::Early;
+ghost use Rattle.dispatch.specs.Represent.{isSet, guarded, LeadsOn, Stores, Kept};
 use crate::answer::Next;
 use crate::answer::has;
-use crate::answer::tested;
 use crate::arithmetic::keep;
 use machine::instruction::Size;
 use machine::memory::Loaded;
 use machine::memory::load;
 use machine::memory::store;
-use machine::outcome::Cause;
 use word::sign::extend16;
 
 // LDX, with the value y of src.
@@ -34,23 +31,27 @@ pub fn load_into(
     imm: u64,
     pc: u64,
     live: u64,
-    regs: &mut [u64; 11],
+    regs: &mut [u64; 16],
     stack: &[u8],
 ) -> Next
-    requires { ⌜ length (now regs) ≡ 11 ⌝ }
-    requires { ⌜ Named dst pc ⌝ }
-    requires { ⌜ src ≤ 10 ⌝ }
-    ensures { λ r. ⌜ LeadsOn r (now (regs .entry)) (now (regs .exit)) (now (stack .entry)) (now (stack .entry)) live pc (λ t. guarded (eqb imm 0) (eqb dst 10) (not (isSet live src)) (afterLoad t dst (loaded (record { rec = now (rec .entry); P = p; S = s }) (now (stack .entry)) (address y (extend 16 off)) size))) ⌝ }
+    requires { ⌜ length (now regs) ≡ 16 ⌝ }
+    requires { ⌜ Kept live pc ⌝ }
+    requires { ⌜ (dst < 16) × (src < 16) ⌝ }
+    ensures { λ r. ⌜ LeadsOn r (now (regs .entry)) (now (regs .exit)) (now (stack .entry)) (now (stack .entry)) live pc (λ t. guarded (eqb imm 0) (leb 10 dst) (not (isSet live src)) (afterLoad t dst (loaded (record { rec = now (rec .entry); P = p; S = s }) (now (stack .entry)) (address y (extend 16 off)) size))) ⌝ }
 {
-    match tested(imm == 0, dst == 10, !has(live, src)) {
-        Early::Because(c) => Next::Stop(c),
-        Early::Nothing => {
-            let a = std::num::wrapping_add_u64(y, extend16(off));
-            match load(rec, stack, p, s, a, size) {
-                Loaded::Value(v) => keep(v, dst, pc, live, regs),
-                Loaded::Nowhere => Next::Stop(Cause::BadAccess),
-            }
-        }
+    if !(imm == 0) {
+        return Next::Stop;
+    }
+    if 10 <= dst {
+        return Next::Stop;
+    }
+    if !has(live, src) {
+        return Next::Stop;
+    }
+    let a = std::num::wrapping_add_u64(y, extend16(off));
+    match load(rec, stack, p, s, a, size) {
+        Loaded::Value(v) => keep(v, dst, pc, live, regs),
+        Loaded::Nowhere => Next::Stop,
     }
 }
 
@@ -65,14 +66,14 @@ fn store_at(
     live: u64,
     stack: &mut [u8],
 ) -> Next
-    requires { ⌜ pc < 2 ^ 63 ⌝ }
+    requires { ⌜ Kept live pc ⌝ }
     ensures { λ r. ⌜ ((rec : List ℕ) (P : ℕ) → Stores r (now (stack .entry)) (now (stack .exit)) live pc (λ t. afterStore (record { rec = rec; P = P; S = s }) t (address y (extend 16 off)) size x)) ⌝ }
 {
     let a = std::num::wrapping_add_u64(y, extend16(off));
     if store(stack, s, a, size, x) {
         return Next::Go { pc: pc + 1, live };
     }
-    Next::Stop(Cause::BadAccess)
+    Next::Stop
 }
 
 // ST.
@@ -88,13 +89,17 @@ pub fn store_immediate(
     live: u64,
     stack: &mut [u8],
 ) -> Next
-    requires { ⌜ Named dst pc ⌝ }
+    requires { ⌜ Kept live pc ⌝ }
+    requires { ⌜ dst < 16 ⌝ }
     ensures { λ r. ⌜ ((rec : List ℕ) (P : ℕ) → Stores r (now (stack .entry)) (now (stack .exit)) live pc (λ t. guarded (eqb src 0) false (not (isSet live dst)) (afterStore (record { rec = rec; P = P; S = s }) t (address y (extend 16 off)) size x))) ⌝ }
 {
-    match tested(src == 0, false, !has(live, dst)) {
-        Early::Because(c) => Next::Stop(c),
-        Early::Nothing => store_at(s, size, x, y, off, pc, live, stack),
+    if !(src == 0) {
+        return Next::Stop;
     }
+    if !has(live, dst) {
+        return Next::Stop;
+    }
+    store_at(s, size, x, y, off, pc, live, stack)
 }
 
 // STX.
@@ -111,12 +116,18 @@ pub fn store_register(
     live: u64,
     stack: &mut [u8],
 ) -> Next
-    requires { ⌜ Named dst pc ⌝ }
-    requires { ⌜ src ≤ 10 ⌝ }
+    requires { ⌜ Kept live pc ⌝ }
+    requires { ⌜ (dst < 16) × (src < 16) ⌝ }
     ensures { λ r. ⌜ ((rec : List ℕ) (P : ℕ) → Stores r (now (stack .entry)) (now (stack .exit)) live pc (λ t. guarded (eqb imm 0) false (not (isSet live dst) || not (isSet live src)) (afterStore (record { rec = rec; P = P; S = s }) t (address y (extend 16 off)) size x))) ⌝ }
 {
-    match tested(imm == 0, false, !has(live, dst) | !has(live, src)) {
-        Early::Because(c) => Next::Stop(c),
-        Early::Nothing => store_at(s, size, x, y, off, pc, live, stack),
+    if !(imm == 0) {
+        return Next::Stop;
     }
+    if !has(live, dst) {
+        return Next::Stop;
+    }
+    if !has(live, src) {
+        return Next::Stop;
+    }
+    store_at(s, size, x, y, off, pc, live, stack)
 }

@@ -1,11 +1,11 @@
 // One instruction obeyed: a flat match over the 86 opcodes, which the compiler makes one jump table of.
 // A register is read in the arm that wants it, so that no arm waits for what another one reads.
 ghost use mathlib.Core.Path.{_≡_};
-ghost use Prim.Native.Nat.{ℕ, _≤_, _<_, _^_};
+ghost use Prim.Native.Nat.{_<_};
 ghost use lib.ListN.{length};
 ghost use Rattle.machine.specs.Instruction.{meaning};
 ghost use Rattle.machine.specs.Machine.{obey as obeyed};
-ghost use Rattle.dispatch.specs.Represent.{LeadsOn, Named};
+ghost use Rattle.dispatch.specs.Represent.{LeadsOn, Kept};
 use crate::answer::Next;
 use crate::arithmetic::move_immediate;
 use crate::arithmetic::move_register;
@@ -20,7 +20,6 @@ use crate::memory::load_into;
 use crate::memory::store_immediate;
 use crate::memory::store_register;
 use machine::instruction::Size;
-use machine::outcome::Cause;
 use word::arithmetic32::add32;
 use word::arithmetic32::and32;
 use word::arithmetic32::arsh32;
@@ -71,12 +70,12 @@ pub fn obey(
     imm: u64,
     pc: u64,
     live: u64,
-    regs: &mut [u64; 11],
+    regs: &mut [u64; 16],
     stack: &mut [u8],
 ) -> Next
-    requires { ⌜ length (now regs) ≡ 11 ⌝ }
-    requires { ⌜ Named dst pc ⌝ }
-    requires { ⌜ src ≤ 10 ⌝ }
+    requires { ⌜ length (now regs) ≡ 16 ⌝ }
+    requires { ⌜ Kept live pc ⌝ }
+    requires { ⌜ (dst < 16) × (src < 16) ⌝ }
     ensures { λ r. ⌜ LeadsOn r (now (regs .entry)) (now (regs .exit)) (now (stack .entry)) (now (stack .exit)) live pc (λ t. obeyed (record { rec = now (rec .entry); P = p; S = s }) t (meaning (record { opcode = op; dst = dst; src = src; off = off; imm = imm }))) ⌝ }
 {
     let i = dst as usize;
@@ -273,6 +272,6 @@ pub fn obey(
             live,
             stack,
         ),
-        _ => Next::Stop(Cause::BadCode),
+        _ => Next::Stop,
     }
 }

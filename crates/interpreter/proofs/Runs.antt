@@ -1,46 +1,26 @@
 -- The laws of a step and of a run: what is fetched, how the next step goes on from an answer, and where a run starts and ends.
 -- Assumes nothing.
-use mathlib.Core.Path.{_≡_, refl, sym, ap, _∙_}
-use mathlib.Core.Bool.{Bool, true, false, cond, not, _&&_, _||_, true≢false}
-use mathlib.Core.List.{List, [], _∷_}
-use Prim.Native.Nat.{ℕ, zero, suc, _+_, _-_, _*_, _/_, _%_, _^_, _≤_, _<_}
+use mathlib.Core.Path.{_≡_, refl, ap, subst, _∙_}
+use mathlib.Core.Bool.{Bool, true, false, _||_, true≢false}
+use mathlib.Core.List.{List}
+use Prim.Native.Nat.{ℕ, zero, suc, _+_, _-_, _*_, _/_, _^_, _≤_, _<_}
 use native.Mathlib.Nat.{sub-zero}
 use native.Mathlib.Omega.{arith}
-use lib.ListN.{length, getD, set, replicate}
-use lib.Dec.{leb, ltb, eqb}
-use borrow.Author.Tests.{le-leb, lt-leb, ltb-true, ltb-false, eqb-true, not-false}
+use lib.ListN.{length, set, replicate}
+use lib.Dec.{ltb}
+use borrow.Author.Tests.{le-leb, lt-leb, ltb-false, eqb-true, not-false}
 use Rattle.word.specs.Word.{bit}
-use Rattle.machine.specs.declared.instruction.Instruction.{Instruction}
-use Rattle.machine.specs.declared.instruction.Instruction.the-variants.{NoInstruction}
 use Rattle.machine.specs.declared.outcome.Cause.{Cause}
-use Rattle.machine.specs.declared.outcome.Cause.the-variants.{BadCode, OffEnd}
+use Rattle.machine.specs.declared.outcome.Cause.the-variants.{OffEnd}
 use Rattle.machine.specs.declared.outcome.Outcome.the-variants.{Verdict, Fault, Budget, Refused}
-use Rattle.machine.specs.Instruction.{Fields, fields, only, meaning, decode}
-use Rattle.machine.specs.Machine.{World, State, After, goes, ends, faults, Done, isNoInstruction, obey, step, runs, start, badProgram, badRecord, badStack, badAddress, overlap, refused, interpreted}
-use Rattle.machine.specs.Machine.{next as following}
+use Rattle.machine.specs.Instruction.{Fields, fields, meaning, decode}
+use Rattle.machine.specs.Machine.{World, State, goes, ends, faults, Done, obey, step, runs, start, badProgram, badRecord, badStack, badAddress, overlap, refused, interpreted}
 use Rattle.dispatch.specs.declared.answer.Next.{Next}
 use Rattle.dispatch.specs.declared.answer.Next.the-variants.{Go, Exit, Stop}
-use Rattle.dispatch.specs.Represent.{isSet, contentOf, contents, stateOf, comes, Leads}
+use Rattle.dispatch.specs.Represent.{isSet, contentOf, contents, stateOf, causeOf, comes, Leads}
+use Rattle.dispatch.proofs.Answers.{stopped}
 
 -- ---- one step
-
--- dst or src above 10 is no instruction
-unnamed-by : (dst src : ℕ) (a b : Bool) → ltb 10 dst ≡ a → ltb 10 src ≡ b → a || b ≡ true → leb dst 10 && leb src 10 ≡ false
-unnamed-by dst src true b ha hb e = simp (lt-leb dst 10 (ltb-true 10 dst ha))
-unnamed-by dst src false true ha hb e = simp (le-leb dst 10 (ltb-false 10 dst ha), lt-leb src 10 (ltb-true 10 src hb))
-unnamed-by dst src false false ha hb e = cc
-
-either-false : (a b : Bool) → a || b ≡ false → (a ≡ false) × (b ≡ false)
-either-false true b e = absurd (true≢false e)
-either-false false b e = (refl, e)
-
-pub named : (dst src : ℕ) → ltb 10 dst || ltb 10 src ≡ false → (dst ≤ 10) × (src ≤ 10)
-named dst src e = let h = either-false (ltb 10 dst) (ltb 10 src) e in (ltb-false 10 dst (h .0), ltb-false 10 src (h .1))
-
-pub unnamed : (w : World) (t : State) (op dst src off imm : ℕ) → ltb 10 dst || ltb 10 src ≡ true
-    → faults BadCode ≡ obey w t (meaning (record { opcode = op; dst = dst; src = src; off = off; imm = imm }))
-unfolding meaning only obey isNoInstruction
-unnamed w t op dst src off imm e = simp (unnamed-by dst src (ltb 10 dst) (ltb 10 src) refl refl e)
 
 module _ (program : List ℕ) (w : World) (regs : List ℕ) (live : ℕ) (stack : List ℕ) (pc : ℕ) where
   pub step-off : length program / 8 ≤ pc → faults OffEnd ≡ step program w (stateOf regs live stack pc)
@@ -59,7 +39,7 @@ one-less budget n h = omega arith
 
 module _ (program : List ℕ) (w : World) (budget n : ℕ) (t : State) (r : Next) (regs stack : List ℕ) (h : n < budget)
     (leads : Leads r regs stack t (step program w t)) where
-  comes-of-run : comes (runs program w (budget - (n + 1))) n (t .index) r regs stack ≡ runs program w (budget - n) n t
+  comes-of-run : comes (runs program w (budget - (n + 1))) n (t .index) (causeOf (step program w t)) r regs stack ≡ runs program w (budget - n) n t
   unfolding runs
   comes-of-run = rw (one-less budget n h) (leads .leads (runs program w (budget - (n + 1))) n)
 
@@ -72,9 +52,13 @@ module _ (program : List ℕ) (w : World) (budget n : ℕ) (t : State) (r : Next
   unfolding comes
   run-ends v e = rw e at comes-of-run
 
-  pub run-faults : (c : Cause) → r ≡ Stop c → record { outcome = Fault c (t .index) n; stack = stack } ≡ runs program w (budget - n) n t
+  -- c is the cause of the machine's fault, if it faults, and it does, since the answer is a stop
+  pub run-faults : (c : Cause) → r ≡ Stop → ((k : Cause) → step program w t ≡ faults k → c ≡ k)
+      → record { outcome = Fault c (t .index) n; stack = stack } ≡ runs program w (budget - n) n t
   unfolding comes
-  run-faults c e = rw e at comes-of-run
+  run-faults c e told =
+      let at-fault = stopped (step program w t) (subst (λ (x : Next). Leads x regs stack t (step program w t)) e leads) in
+      ap (λ (k : Cause). record { outcome = Fault k (t .index) n; stack = stack }) (told _ at-fault) ∙ (rw e at comes-of-run)
 
 pub run-spent : (program : List ℕ) (w : World) (budget n : ℕ) (regs : List ℕ) (live : ℕ) (stack : List ℕ) (pc : ℕ) → budget ≤ n
     → record { outcome = Budget n; stack = stack } ≡ runs program w (budget - n) n (stateOf regs live stack pc)
@@ -83,11 +67,15 @@ run-spent program w budget n regs live stack pc h = let e : budget - n ≡ 0 = o
 
 -- registers 1 and 10 are set: the mask is 2 + 1024
 pub run-starts : (program : List ℕ) (w : World) (budget : ℕ) (stack : List ℕ) → stack ≡ replicate 512 0
-    → runs program w (budget - 0) 0 (stateOf (set (set (replicate 11 0) 1 (w .P)) 10 (w .S + 512)) 1026 stack 0) ≡ runs program w budget 0 (start w)
+    → runs program w (budget - 0) 0 (stateOf (set (set (replicate 16 0) 1 (w .P)) 10 (w .S + 512)) 1026 stack 0) ≡ runs program w budget 0 (start w)
 unfolding start stateOf contents contentOf isSet bit
 run-starts program w budget stack e = rw (e, sub-zero)
 
 -- ---- what is refused, and what is not
+
+either-false : (a b : Bool) → a || b ≡ false → (a ≡ false) × (b ≡ false)
+either-false true b e = absurd (true≢false e)
+either-false false b e = (refl, e)
 
 pub address-low : (a : ℕ) → badAddress a ≡ false → a ≤ 2 ^ 47
 unfolding badAddress

@@ -8,11 +8,11 @@ ghost use Rattle.machine.specs.Machine.{overlap as overlapping};
 ghost use Rattle.dispatch.specs.Represent.{LeadsOn};
 use dispatch::answer::Next;
 use dispatch::obey::obey;
-use machine::memory::fetch;
-use machine::outcome::Cause;
+use dispatch::why::why;
+use machine::instruction::parts_at;
 use machine::outcome::Outcome;
 
-// The instruction at pc, fetched and obeyed.
+// The instruction at pc, fetched and obeyed. No test asks whether dst and src are registers: sixteen numbers are kept, and one above 10 is never set.
 pub fn step(
     program: &[u8],
     rec: &[u8],
@@ -20,33 +20,40 @@ pub fn step(
     s: u64,
     pc: u64,
     live: u64,
-    regs: &mut [u64; 11],
+    regs: &mut [u64; 16],
     stack: &mut [u8],
 ) -> Next
-    requires { ⌜ length (now regs) ≡ 11 ⌝ }
+    requires { ⌜ length (now regs) ≡ 16 ⌝ }
+    requires { ⌜ live < 2 ^ 11 ⌝ }
     ensures { λ r. ⌜ LeadsOn r (now (regs .entry)) (now (regs .exit)) (now (stack .entry)) (now (stack .exit)) live pc (λ t. stepped (now (program .entry)) (record { rec = now (rec .entry); P = p; S = s }) t) ⌝ }
 {
     if ((program.len() / 8) as u64) <= pc {
-        return Next::Stop(Cause::OffEnd);
+        return Next::Stop;
     }
-    let w = fetch(program, (pc as usize) * 8);
-    let op = (w % 256) as u8;
-    let dst = w / 256 % 16;
-    let src = w / 4096 % 16;
-    let off = w / 65536 % 65536;
-    let imm = w / 4294967296;
-    if (dst > 10) | (src > 10) {
-        return Next::Stop(Cause::BadCode);
-    }
-    obey(rec, p, s, op, dst, src, off, imm, pc, live, regs, stack)
+    let f = parts_at(program, (pc as usize) * 8);
+    obey(
+        rec,
+        p,
+        s,
+        f.opcode,
+        f.dst,
+        f.src,
+        f.off,
+        f.imm,
+        pc,
+        live,
+        regs,
+        stack,
+    )
 }
 
+// Steps until the probe ends or faults, or the budget is spent. Why it faults is asked once, here, and not in a step.
 fn run(program: &[u8], rec: &[u8], p: u64, s: u64, stack: &mut [u8], budget: u64) -> Outcome
     requires { ⌜ s ≤ 2 ^ 47 ⌝ }
     requires { ⌜ now stack ≡ replicate 512 0 ⌝ }
     ensures { λ r. ⌜ record { outcome = r; stack = now (stack .exit) } ≡ runs (now (program .entry)) (record { rec = now (rec .entry); P = p; S = s }) budget 0 (start (record { rec = now (rec .entry); P = p; S = s })) ⌝ }
 {
-    let mut regs = [0u64; 11];
+    let mut regs = [0u64; 16];
     regs[1] = p;
     regs[10] = s + 512;
     let mut pc: u64 = 0;
@@ -68,9 +75,9 @@ fn run(program: &[u8], rec: &[u8], p: u64, s: u64, stack: &mut [u8], budget: u64
                     steps: made,
                 };
             }
-            Next::Stop(c) => {
+            Next::Stop => {
                 return Outcome::Fault {
-                    cause: c,
+                    cause: why(program, pc, live),
                     at: pc,
                     steps: n,
                 };

@@ -1,4 +1,5 @@
 pub mod Access
+pub mod Classes
 pub mod Encoding
 pub mod Fetch
 pub mod Meaning

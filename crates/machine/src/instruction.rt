@@ -2,13 +2,15 @@
 // Each function is a definition of `specs/`, or the part of one that its contract says. Assumes nothing.
 ghost use mathlib.Core.Path.{_≡_};
 ghost use mathlib.Core.Bool.{cond, _&&_};
-ghost use Prim.Native.Nat.{_+_, _/_, _%_};
+ghost use Prim.Native.Nat.{_+_, _/_, _%_, _≤_, _<_};
 ghost use lib.ListN.{length};
 ghost use lib.Dec.{leb, eqb};
 ghost use Rattle.word.specs.Word.{extend};
 ghost use Rattle.machine.specs.Instruction.{only, withOperand};
 ghost use Rattle.machine.specs.Instruction as defined;
 use crate::memory::fetch;
+use crate::memory::fetch1;
+use crate::memory::fetch2;
 use word::Comparison;
 use word::Operation;
 use word::sign::extend16;
@@ -71,6 +73,32 @@ pub enum Instruction {
     NoInstruction,
 }
 
+// The fields of eight bytes, off and imm without their signs.
+pub struct Parts {
+    pub opcode: u8,
+    pub dst: u64,
+    pub src: u64,
+    pub off: u64,
+    pub imm: u64,
+}
+
+// The fields of the eight bytes at i. To load each by itself takes less than to take a word apart; only imm, of which some users want
+// single bytes, is loaded whole when it is the upper half of a word.
+pub fn parts_at(m: &[u8], i: usize) -> Parts
+    requires { ⌜ i + 8 ≤ length (now m) ⌝ }
+    ensures fields { λ r. ⌜ record { opcode = r .opcode; dst = r .dst; src = r .src; off = r .off; imm = r .imm } ≡ defined.fields (now (m .entry)) i ⌝ }
+    ensures registers { λ r. ⌜ (r .dst < 16) × (r .src < 16) ⌝ }
+{
+    let registers = fetch1(m, i + 1);
+    Parts {
+        opcode: m[i],
+        dst: registers % 16,
+        src: registers / 16,
+        off: fetch2(m, i + 2),
+        imm: fetch(m, i) / 4294967296,
+    }
+}
+
 // The instruction that the eight bytes at i are. Bytes that don't lie wholly in m are none.
 pub fn decode(m: &[u8], i: usize) -> Instruction
     ensures { λ r. ⌜ r ≡ cond (leb (i + 8) (length (now (m .entry)))) (defined.decode (now (m .entry)) i) Instruction.NoInstruction ⌝ }
@@ -81,14 +109,8 @@ pub fn decode(m: &[u8], i: usize) -> Instruction
     if m.len() - 8 < i {
         return Instruction::NoInstruction;
     }
-    let w = fetch(m, i);
-    meaning(
-        w % 256,
-        w / 256 % 16,
-        w / 4096 % 16,
-        w / 65536 % 65536,
-        w / 4294967296,
-    )
+    let f = parts_at(m, i);
+    meaning(f.opcode as u64, f.dst, f.src, f.off, f.imm)
 }
 
 // Where a register is above 10, nothing else is looked at.
@@ -104,12 +126,21 @@ fn meaning(opcode: u64, dst: u64, src: u64, off: u64, imm: u64) -> Instruction
     by_class(opcode, dst, src, off, imm)
 }
 
+fn width_of(opcode: u64) -> Width
+    ensures { λ r. ⌜ r ≡ cond (eqb (opcode % 8) 7) Width.Long Width.Short ⌝ }
+{
+    if opcode % 8 == 7 {
+        return Width::Long;
+    }
+    Width::Short
+}
+
+// Both widths come to one call, so that the tables of a class are compiled once.
 fn by_class(opcode: u64, dst: u64, src: u64, off: u64, imm: u64) -> Instruction
     ensures { λ r. ⌜ r ≡ defined.byClass (record { opcode = opcode; dst = dst; src = src; off = off; imm = imm }) ⌝ }
 {
     match opcode % 8 {
-        7 => arithmetic(Width::Long, opcode, dst, src, off, imm),
-        4 => arithmetic(Width::Short, opcode, dst, src, off, imm),
+        4 | 7 => arithmetic(width_of(opcode), opcode, dst, src, off, imm),
         5 => jump(opcode, dst, src, off, imm),
         1 => load(opcode, dst, src, off, imm),
         2 => store_of_imm(opcode, dst, src, off, imm),

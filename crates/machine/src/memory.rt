@@ -48,14 +48,14 @@ fn locate(base: u64, len: usize, a: u64, n: usize) -> Place
     Place::At(i)
 }
 
-fn fetch1(m: &[u8], i: usize) -> u64
+pub fn fetch1(m: &[u8], i: usize) -> u64
     requires { ⌜ i + 1 ≤ length (now m) ⌝ }
     ensures { λ r. ⌜ r ≡ readBytes 1 (now (m .entry)) i ⌝ }
 {
     m[i] as u64
 }
 
-fn fetch2(m: &[u8], i: usize) -> u64
+pub fn fetch2(m: &[u8], i: usize) -> u64
     requires { ⌜ i + 2 ≤ length (now m) ⌝ }
     ensures { λ r. ⌜ r ≡ readBytes 2 (now (m .entry)) i ⌝ }
 {

@@ -1,12 +1,13 @@
 // A step of a run as a line: the instruction, and what it changed. The step is the interpreter's own.
 // Assumes nothing.
 ghost use mathlib.Core.Path.{_≡_};
-ghost use Prim.Native.Nat.{_≤_};
+ghost use Prim.Native.Nat.{_≤_, _<_, _^_};
 ghost use lib.ListN.{length};
 ghost use Rattle.reports.specs.Traced.{Steps};
 use crate::numbers::write_number;
 use crate::numbers::write_word;
 use dispatch::answer::Next;
+use dispatch::why::why;
 use interpreter::step;
 use listing::line::end_line;
 use listing::line::write_line;
@@ -14,10 +15,11 @@ use machine::outcome::Cause;
 use probewarden::number::fault_number;
 use probewarden::number::put_fault;
 
-// How many bytes of text there are, and where the run goes on.
+// How many bytes of text there are, where the run goes on, and why it does not, if it stops.
 pub struct Traced {
     pub bytes: usize,
     pub next: Next,
+    pub cause: Cause,
 }
 
 fn word_at(words: &[u64], k: usize) -> u64 {
@@ -105,6 +107,7 @@ fn write_next(
     after: &[u64],
     old: u64,
     next: Next,
+    cause: Cause,
 ) -> usize
     requires { ⌜ at ≤ length (now out) ⌝ }
     ensures { λ r. ⌜ (at ≤ r) × (r ≤ length (now (out .entry))) ⌝ }
@@ -112,7 +115,7 @@ fn write_next(
     match next {
         Next::Go { pc: _, live } => write_changes(out, at, before, after, old, live),
         Next::Exit(v) => write_word(out, at, b"\t; verdict ", v, b""),
-        Next::Stop(cause) => write_stop(out, at, cause),
+        Next::Stop => write_stop(out, at, cause),
     }
 }
 
@@ -132,18 +135,20 @@ pub fn trace_step(
     s: u64,
     pc: u64,
     live: u64,
-    regs: &mut [u64; 11],
+    regs: &mut [u64; 16],
     stack: &mut [u8],
     out: &mut [u8],
 ) -> Traced
-    requires { ⌜ length (now regs) ≡ 11 ⌝ }
+    requires { ⌜ length (now regs) ≡ 16 ⌝ }
+    requires { ⌜ live < 2 ^ 11 ⌝ }
     ensures { λ r. ⌜ Steps (now (program .entry)) (now (rec .entry)) p s pc live (now (regs .entry)) (now (regs .exit)) (now (stack .entry)) (now (stack .exit)) (length (now (out .entry))) r ⌝ }
 {
-    let mut before = [0u64; 11];
+    let mut before = [0u64; 16];
     copy(regs, &mut before);
     let next = step(program, rec, p, s, pc, live, regs, stack);
+    let cause = why(program, pc, live);
     let a = write_line(out, 0, program, pc as usize);
-    let b = write_next(out, a, &before, regs, live, next);
+    let b = write_next(out, a, &before, regs, live, next, cause);
     let bytes = end_line(out, b);
-    Traced { bytes, next }
+    Traced { bytes, next, cause }
 }

@@ -292,6 +292,19 @@ a-state-comes-to-an-unmarked-block n i m m′ j a before l fit ne st = record {
     same : factsAt (set m′ (56 * j) 1) (56 * j + 1) ≡ factsAt m′ (56 * j + 1)
     same = equal-states m′ (set m′ (56 * j) 1) (56 * j + 1) (λ k h. getD-set-other m′ (56 * j) (56 * j + 1 + k) 1 0 (λ e. omega arith))
 
+pub a-changed-state-comes-to-an-unmarked-block : (n i d : ℕ) (m copied m′ : List ℕ) (j : ℕ) (a : Facts) (h : Held) → i < j → j < n
+    → 56 * n ≤ length m → (getD m (56 * j) 0 ≡ 1 → ⊥) → Stored m copied (56 * j + 1) a → Changed copied m′ (56 * j + 1) d h
+    → Arrived n i m (set m′ (56 * j) 1) j (having a d (heldIn h))
+a-changed-state-comes-to-an-unmarked-block n i d m copied m′ j a h before l fit ne st put =
+    a-state-comes-to-an-unmarked-block n i m m′ j (having a d (heldIn h)) before l fit ne (record {
+      size = changed .size ∙ st .size;
+      held = changed .held ∙ ap (λ b. having b d (heldIn h)) (st .held);
+      others = λ k o. changed .others k o ∙ st .others k o;
+    })
+  where
+    changed : Stored copied m′ (56 * j + 1) (having (factsAt copied (56 * j + 1)) d (heldIn h))
+    changed = a-changed-register-is-stored copied m′ (56 * j + 1) d h put
+
 -- ---- a register is changed, and put back
 
 -- the words outside of the state at index i do not tell what waits at another index

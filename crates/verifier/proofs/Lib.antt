@@ -5,6 +5,7 @@ pub mod KindLaws
 pub mod Memory
 pub mod Outcomes
 pub mod Promise
+pub mod Singles
 pub mod Steps
 pub mod Tests
 pub mod Words

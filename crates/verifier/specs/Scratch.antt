@@ -11,6 +11,7 @@ use lib.Dec.{eqb, ltb}
 use Rattle.machine.specs.declared.instruction.Instruction.{Instruction}
 use Rattle.machine.specs.declared.instruction.Instruction.the-variants.{Alu, Neg, Jump, Always, Exit, Load, Store, NoInstruction}
 use Rattle.number.specs.declared.Number.{Number}
+use Rattle.number.specs.Sharpen.{exact}
 use Rattle.analysis.specs.declared.Region.the-variants.{Record, Stack}
 use Rattle.analysis.specs.declared.Gone.the-variants.{Never, Mixed}
 use Rattle.analysis.specs.declared.Value.{Value}
@@ -21,6 +22,10 @@ use Rattle.analysis.specs.Judged.{Waiting, nobody, arrive, Progress, halted, on
 use Rattle.verifier.specs.declared.Step.{Step}
 use Rattle.verifier.specs.declared.Step.the-variants.{Halt, More}
 use Rattle.verifier.specs.declared.value.Held.{Held}
+use Rattle.verifier.specs.declared.value.Single.{Single}
+use Rattle.verifier.specs.declared.value.Single.the-variants as single
+use Rattle.verifier.specs.declared.value.Singles.{Singles}
+use Rattle.verifier.specs.declared.value.Singles.the-variants as singles
 
 -- the words that a program of n instructions needs
 unfoldable pub words : ℕ → ℕ
@@ -67,6 +72,16 @@ valuesAt (suc k) m at = heldIn (heldAt m at) ∷ valuesAt k m (at + 5)
 
 unfoldable pub factsAt : List ℕ → ℕ → Facts
 factsAt m at = record { registers = valuesAt 11 m at }
+
+-- ---- values that are one number, as far as a routine says so
+
+abbrev pub IsSingle : Single → Value → Type 0
+IsSingle (single.One x) u = u ≡ Plain (exact x)
+IsSingle single.Open u = Unit {0}
+
+abbrev pub AreSingle : Singles → Value → Value → Type 0
+AreSingle (singles.Both x y) u v = (u ≡ Plain (exact x)) × (v ≡ Plain (exact y))
+AreSingle singles.Open u v = Unit {0}
 
 -- ---- what waits for each of n indices: a block is marked by 1
 

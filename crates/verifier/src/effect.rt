@@ -5,16 +5,20 @@ ghost use mathlib.Core.Bool.{cond};
 ghost use Prim.Native.Nat.{ℕ, _+_, _*_, _-_, _^_, _≤_};
 ghost use lib.ListN.{length};
 ghost use lib.Dec.{eqb};
+ghost use Rattle.word.specs.Word.{alu};
 ghost use Rattle.number.specs.Computed as number;
 ghost use Rattle.number.specs.Sharpen.{exact};
 ghost use Rattle.machine.specs.Machine as machine;
 ghost use Rattle.analysis.specs.Effects as defined;
 ghost use Rattle.analysis.specs.Values.{valueOf, operandOf};
-ghost use Rattle.verifier.specs.Scratch.{heldIn, factsAt};
+ghost use Rattle.verifier.specs.Scratch.{heldIn, factsAt, IsSingle, AreSingle};
 ghost use Rattle.verifier.specs.Outcome as outcome;
 ghost use Rattle.verifier.specs.Outcome.{effectIn, reasonOf};
 use crate::scratch::register;
+use crate::scratch::single_at;
 use crate::value::Held;
+use crate::value::Single;
+use crate::value::Singles;
 use crate::value::plain;
 use analysis::Effect;
 use analysis::Value;
@@ -29,6 +33,7 @@ use machine::instruction::Size;
 use machine::instruction::Width;
 use number::Number;
 use word::Operation;
+use word::by_name;
 
 // Code 0 puts held into dst, 1 keeps the state, 2 stops, and any other is a reason's number.
 pub struct Outcome {
@@ -190,7 +195,52 @@ fn moved(width: Width, d: u64, y: Held) -> Outcome
     }
 }
 
+fn operand_single(m: &[u64], at: usize, s: Operand) -> Single
+    requires { ⌜ at + 55 ≤ length (now m) ⌝ }
+    ensures { λ r. ⌜ IsSingle r (operandOf (factsAt (now (m .entry)) at) s) ⌝ }
+{
+    match s {
+        Operand::Immediate(n) => Single::One(n),
+        Operand::Register(r) => single_at(m, at, r),
+    }
+}
+
+pub fn singles_at(m: &[u64], at: usize, d: u64, s: Operand) -> Singles
+    requires { ⌜ at + 55 ≤ length (now m) ⌝ }
+    ensures { λ r. ⌜ AreSingle r (valueOf (factsAt (now (m .entry)) at) d) (operandOf (factsAt (now (m .entry)) at) s) ⌝ }
+{
+    match single_at(m, at, d) {
+        Single::Open => Singles::Open,
+        Single::One(first) => match operand_single(m, at, s) {
+            Single::Open => Singles::Open,
+            Single::One(second) => Singles::Both { first, second },
+        },
+    }
+}
+
+fn word_of(width: Width, op: Operation, x: u64, y: u64) -> u64
+    ensures { λ r. ⌜ r ≡ alu (machine.bits width) op x y ⌝ }
+{
+    match width {
+        Width::Long => by_name::alu64(op, x, y),
+        Width::Short => by_name::alu32(op, x, y),
+    }
+}
+
+// Of two known numbers nothing but the words is calculated.
 fn arithmetic(m: &[u64], at: usize, width: Width, op: Operation, d: u64, s: Operand) -> Outcome
+    requires { ⌜ at + 55 ≤ length (now m) ⌝ }
+    ensures { λ r. ⌜ effectIn r ≡ defined.arithmetic (defined.role width op) (machine.bits width) op d (valueOf (factsAt (now (m .entry)) at) d) (operandOf (factsAt (now (m .entry)) at) s) ⌝ }
+{
+    match singles_at(m, at, d, s) {
+        Singles::Both { first, second } => {
+            put(d, plain(exactly(word_of(width, op, first, second))))
+        }
+        Singles::Open => arithmetic_held(m, at, width, op, d, s),
+    }
+}
+
+fn arithmetic_held(m: &[u64], at: usize, width: Width, op: Operation, d: u64, s: Operand) -> Outcome
     requires { ⌜ at + 55 ≤ length (now m) ⌝ }
     ensures { λ r. ⌜ effectIn r ≡ defined.arithmetic (defined.role width op) (machine.bits width) op d (valueOf (factsAt (now (m .entry)) at) d) (operandOf (factsAt (now (m .entry)) at) s) ⌝ }
 {

@@ -10,7 +10,7 @@ ghost use Rattle.verifier.specs.Form.{told, whenLast, whenWriting, whenJ
 ghost use Rattle.verifier.specs.Form as defined;
 use analysis::Finding;
 use analysis::Reason;
-use machine::memory::fetch;
+use machine::instruction::parts_at;
 use word::sign::extend16;
 
 pub enum Tested {
@@ -207,16 +207,8 @@ fn test_at(program: &[u8], n: usize, i: usize) -> Tested
     requires { ⌜ (i < n) × (n ≤ 4096) × (n ≡ length (now program) / 8) ⌝ }
     ensures { λ r. ⌜ told r ≡ failing (length (now (program .entry)) / 8) i (instruction (now (program .entry)) i) ⌝ }
 {
-    let w = fetch(program, i * 8);
-    test_of(
-        n,
-        i,
-        w % 256,
-        w / 256 % 16,
-        w / 4096 % 16,
-        w / 65536 % 65536,
-        w / 4294967296,
-    )
+    let f = parts_at(program, i * 8);
+    test_of(n, i, f.opcode as u64, f.dst, f.src, f.off, f.imm)
 }
 
 // The first index that fails, for a program of n instructions.

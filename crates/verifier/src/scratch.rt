@@ -4,8 +4,9 @@ ghost use mathlib.Core.Path.{_≡_};
 ghost use Prim.Native.Nat.{_+_, _*_, _≤_, _<_};
 ghost use lib.ListN.{length};
 ghost use Rattle.analysis.specs.Values.{startFacts, valueOf};
-ghost use Rattle.verifier.specs.Scratch.{heldIn, heldAt, factsAt, nothingKnown, Wrote, Changed, Stored, Cleared};
+ghost use Rattle.verifier.specs.Scratch.{heldIn, heldAt, factsAt, IsSingle, nothingKnown, Wrote, Changed, Stored, Cleared};
 use crate::value::Held;
+use crate::value::Single;
 use calculator::sharpen::exactly;
 use known_bits::Bits;
 use number::Number;
@@ -43,6 +44,32 @@ pub fn register(m: &[u64], at: usize, r: u64) -> Held
         };
     }
     held_at(m, at + 5 * r as usize)
+}
+
+// Whether register r of the state at `at` is one number. It is told from its words, and no Number is made of them: that makes a program that
+// computes with known numbers cheap.
+pub fn single_at(m: &[u64], at: usize, r: u64) -> Single
+    requires { ⌜ at + 55 ≤ length (now m) ⌝ }
+    ensures { λ s. ⌜ IsSingle s (valueOf (factsAt (now (m .entry)) at) r) ⌝ }
+{
+    if 11 <= r {
+        return Single::Open;
+    }
+    let k = at + 5 * r as usize;
+    let x = m[k + 1];
+    if m[k] != 2 {
+        return Single::Open;
+    }
+    if m[k + 2] != 0 {
+        return Single::Open;
+    }
+    if m[k + 3] != x {
+        return Single::Open;
+    }
+    if m[k + 4] != x {
+        return Single::Open;
+    }
+    Single::One(x)
 }
 
 pub fn write_held(m: &mut [u64], at: usize, h: Held)

@@ -1,9 +1,10 @@
 // States are sent: the state of an index comes to a later index, where it is copied or joined to what waits there. To send it with a
 // register changed, the register is changed in place, and its words are put back afterwards. Assumes nothing.
 ghost use mathlib.Core.Path.{_≡_};
+ghost use mathlib.Core.Bool.{cond};
 ghost use mathlib.Core.Option.{some};
 ghost use Prim.Native.Nat.{_+_, _*_, _≤_, _<_};
-ghost use lib.ListN.{length};
+ghost use lib.ListN.{length, getD};
 ghost use Rattle.analysis.specs.Values.{valueOf, operandOf, joinedValue, joinedFacts};
 ghost use Rattle.analysis.specs.Effects as effects;
 ghost use Rattle.analysis.specs.Judged as defined;
@@ -12,6 +13,7 @@ ghost use Rattle.verifier.specs.Outcome.{reasonOf, effectIn};
 use crate::Step;
 use crate::effect::Outcome;
 use crate::effect::operand_held;
+use crate::effect::singles_at;
 use crate::effect::unusable;
 use crate::scratch::copy_state;
 use crate::scratch::held_at;
@@ -19,6 +21,7 @@ use crate::scratch::put_register;
 use crate::scratch::register;
 use crate::scratch::write_held;
 use crate::value::Held;
+use crate::value::Singles;
 use crate::value::join_held;
 use crate::value::plain;
 use analysis::Reason;
@@ -29,6 +32,7 @@ use machine::instruction::Operand;
 use number::Number;
 use number::Refined;
 use word::Comparison;
+use word::by_name::compare64;
 
 fn join_register(m: &mut [u64], from: usize, to: usize)
     requires { ⌜ (from + 5 ≤ length (now m)) × (to + 5 ≤ length (now m)) ⌝ }
@@ -152,7 +156,7 @@ pub fn reason_of(code: u64) -> Reason
 }
 
 // Both ways out of a jump, the way on first.
-pub fn jump(
+fn fork(
     m: &mut [u64],
     n: usize,
     i: usize,
@@ -188,6 +192,68 @@ pub fn jump(
     }
 }
 
+// The state goes on unchanged: to the target, or to the next index.
+fn turn(m: &mut [u64], n: usize, i: usize, taken: bool, target: u64, work: u64) -> Step
+    requires { ⌜ (i < target) × (i < 4096) × (56 * n ≤ length (now m)) × (work < 1048576) ⌝ }
+    ensures { λ r. ⌜ Sent (defined.send n (cond taken target (i + 1)) (some (factsAt (now (m .entry)) (56 * i + 1))) (waitingIn n (now (m .entry))) work) n i r (now (m .entry)) (now (m .exit)) ⌝ }
+{
+    if taken {
+        return send(m, n, i, target, work);
+    }
+    send(m, n, i, i as u64 + 1, work)
+}
+
+// A jump. Two known numbers go one way, and nothing is learnt of them.
+pub fn jump(
+    m: &mut [u64],
+    n: usize,
+    i: usize,
+    c: Comparison,
+    d: u64,
+    s: Operand,
+    target: u64,
+    work: u64,
+) -> Step
+    requires { ⌜ (i < n) × (i < target) × (n ≤ 4096) × (56 * n ≤ length (now m)) × (work < 1048000) ⌝ }
+    ensures { λ r. ⌜ Sent (defined.distribute n i (waitingIn n (now (m .entry))) work (defined.apply (factsAt (now (m .entry)) (56 * i + 1))
+        (effects.readingBoth (valueOf (factsAt (now (m .entry)) (56 * i + 1)) d) (operandOf (factsAt (now (m .entry)) (56 * i + 1)) s)
+        (effects.fork c d s target (valueOf (factsAt (now (m .entry)) (56 * i + 1)) d) (operandOf (factsAt (now (m .entry)) (56 * i + 1)) s)))))
+        n i r (now (m .entry)) (now (m .exit)) ⌝ }
+{
+    match singles_at(m, 56 * i + 1, d, s) {
+        Singles::Both { first, second } => {
+            turn(m, n, i, compare64(c, first, second), target, work)
+        }
+        Singles::Open => fork(m, n, i, c, d, s, target, work),
+    }
+}
+
+// The state with h in register d comes to the next index, where nothing waits: it is copied, and changed there.
+fn arrive_with(m: &mut [u64], n: usize, i: usize, d: u64, h: Held)
+    requires { ⌜ (i + 1 < n) × (56 * n ≤ length (now m)) ⌝ }
+    requires { ⌜ (getD (now m) (56 * (i + 1)) 0 ≡ 1 → ⊥) ⌝ }
+    ensures { λ r. ⌜ Arrived n i (now (m .entry)) (now (m .exit)) (i + 1) (defined.having (factsAt (now (m .entry)) (56 * i + 1)) d (heldIn h)) ⌝ }
+{
+    let place = 56 * (i + 1);
+    copy_state(m, 56 * i + 1, place + 1);
+    put_register(m, place + 1, d, h);
+    m[place] = 1;
+}
+
+fn put_next(m: &mut [u64], n: usize, i: usize, d: u64, h: Held, work: u64) -> Step
+    requires { ⌜ (i < n) × (n ≤ 4096) × (56 * n ≤ length (now m)) × (work < 1048000) ⌝ }
+    ensures { λ r. ⌜ Sent (defined.send n (i + 1) (some (defined.having (factsAt (now (m .entry)) (56 * i + 1)) d (heldIn h))) (waitingIn n (now (m .entry))) work) n i r (now (m .entry)) (now (m .exit)) ⌝ }
+{
+    if i + 1 < n {
+        let place = 56 * (i + 1);
+        if m[place] != 1 {
+            arrive_with(m, n, i, d, h);
+            return Step::More { work: work + 11 };
+        }
+    }
+    send_with(m, n, i, i as u64 + 1, d, h, work)
+}
+
 // An outcome at index i.
 pub fn proceed(m: &mut [u64], n: usize, i: usize, o: Outcome, work: u64) -> Step
     requires { ⌜ (i < n) × (n ≤ 4096) × (56 * n ≤ length (now m)) × (work < 1048000) ⌝ }
@@ -196,7 +262,7 @@ pub fn proceed(m: &mut [u64], n: usize, i: usize, o: Outcome, work: u64) -> Step
 {
     if o.code == 0 {
         let h = o.held;
-        return send_with(m, n, i, i as u64 + 1, o.dst, h, work);
+        return put_next(m, n, i, o.dst, h, work);
     }
     if o.code == 1 {
         return send(m, n, i, i as u64 + 1, work);

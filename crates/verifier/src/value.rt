@@ -13,6 +13,18 @@ pub struct Held {
     pub number: Number,
 }
 
+// What the words of a value say: that it is one number, or not so much.
+pub enum Single {
+    One(u64),
+    Open,
+}
+
+// And those of two values.
+pub enum Singles {
+    Both { first: u64, second: u64 },
+    Open,
+}
+
 pub fn plain(n: Number) -> Held
     ensures { λ r. ⌜ heldIn r ≡ Value.Plain n ⌝ }
 {

@@ -2,6 +2,7 @@
 // Each function gives what `specs/Word.antt` defines for its width, on any two words. Assumes nothing.
 pub mod arithmetic32;
 pub mod arithmetic64;
+pub mod by_name;
 pub mod order64;
 pub mod sign;
 

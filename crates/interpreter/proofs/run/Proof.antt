@@ -1,54 +1,59 @@
 -- `run`: what is left of the run from here is the whole run, by `Leads` of each step. The measure is what is left of the budget.
 -- Assumes nothing.
 use mathlib.Core.Path.{_≡_, refl, _∙_}
-use Prim.Native.Nat.{_-_, _≤_}
+use Prim.Native.Nat.{_-_, _^_, _≤_, _<_}
 use native.Mathlib.Omega.{arith}
 use lib.ListN.{length, length-set, length-replicate}
+use lib.Dec.{lit<}
 use Rattle.machine.specs.Machine.{runs, start}
 use Rattle.dispatch.specs.Represent.{stateOf}
+use Rattle.dispatch.proofs.Answers.{go-narrow}
 use Rattle.interpreter.proofs.Runs.{run-goes, run-ends, run-faults, run-spent, run-starts}
 use borrow.Author.Needs.{needs}
 use Rattle.interpreter.proofs.run.Statement.{statement}
 use Rattle.interpreter.proofs.run.Tie as tie
 
 abbrev Inv-loop : tie.InvT-loop
-Inv-loop program rec p s stack₀ budget regs₀ pc₀ live₀ n₀ stack regs pc live n = (n ≤ budget) × ((length regs ≡ 11) × ((length stack ≡ length stack₀) × (runs program (record { rec = rec; P = p; S = s }) (budget - n) n (stateOf regs live stack pc) ≡ runs program (record { rec = rec; P = p; S = s }) budget 0 (start (record { rec = rec; P = p; S = s })))))
+Inv-loop program rec p s stack₀ budget regs₀ pc₀ live₀ n₀ stack regs pc live n = (n ≤ budget) × ((length regs ≡ 16) × ((live < 2 ^ 11) × ((length stack ≡ length stack₀) × (runs program (record { rec = rec; P = p; S = s }) (budget - n) n (stateOf regs live stack pc) ≡ runs program (record { rec = rec; P = p; S = s }) budget 0 (start (record { rec = rec; P = p; S = s }))))))
 
 abbrev μ-loop : tie.MeasureT-loop
 μ-loop program rec p s stack₀ budget regs₀ pc₀ live₀ n₀ stack regs pc live n = budget - n
 
 loop-holds : tie.Need-loop-holds Inv-loop μ-loop
-loop-holds c = (search needs, (simp (length-set, length-replicate), (refl, run-starts _ _ _ _ (c .before .before .before .pre .1))))
+loop-holds c = (search needs, (simp (length-set, length-replicate), (lit< tt, (refl, run-starts _ _ _ _ (c .before .before .before .pre .1)))))
 
 step-requires : tie.Need-step-requires Inv-loop μ-loop
-step-requires c κs = c .before .before .before .loop .inv .1 .0
+step-requires c κs = (c .before .before .before .loop .inv .1 .0, c .before .before .before .loop .inv .1 .1 .0)
 
 same-length : tie.Need-same-length Inv-loop μ-loop
-same-length c = c .before .before .before .before .before .step .kept .1 .1 .1 .1 .1 .1 .1 .0 ∙ c .before .before .before .before .before .before .before .before .before .loop .inv .1 .1 .0
+same-length c = c .before .before .before .before .before .step .kept .1 .1 .1 .1 .1 .1 .1 .0 ∙ c .before .before .before .before .before .before .before .before .before .loop .inv .1 .1 .1 .0
 
 returns : tie.Need-returns Inv-loop μ-loop
-returns c = run-ends _ _ _ _ _ _ _ _ (c .before .before .before .before .before .before .before .before .loop-test .taken) (c .before .before .before .before .before .step .ensures) _ (c .before .v .given .1) ∙ c .before .before .before .before .before .before .before .before .before .loop .inv .1 .1 .1
+returns c = run-ends _ _ _ _ _ _ _ _ (c .before .before .before .before .before .before .before .before .loop-test .taken) (c .before .before .before .before .before .step .ensures) _ (c .before .v .given .1) ∙ c .before .before .before .before .before .before .before .before .before .loop .inv .1 .1 .1 .1
+
+why-requires : tie.Need-why-requires Inv-loop μ-loop
+why-requires c κs = c .before .before .before .before .before .before .before .before .loop .inv .1 .1 .0
 
 same-length-2 : tie.Need-same-length-2 Inv-loop μ-loop
-same-length-2 c = c .before .before .before .before .before .step .kept .1 .1 .1 .1 .1 .1 .1 .0 ∙ c .before .before .before .before .before .before .before .before .before .loop .inv .1 .1 .0
+same-length-2 c = c .before .before .before .before .before .step .kept .1 .1 .1 .1 .1 .1 .1 .0 ∙ c .before .before .before .before .before .before .before .before .before .loop .inv .1 .1 .1 .0
 
 returns-2 : tie.Need-returns-2 Inv-loop μ-loop
 unfolding stateOf
-returns-2 c = run-faults _ _ _ _ _ _ _ _ (c .before .before .before .before .before .before .before .before .loop-test .taken) (c .before .before .before .before .before .step .ensures) _ (c .before .c .given .1) ∙ c .before .before .before .before .before .before .before .before .before .loop .inv .1 .1 .1
+returns-2 c = run-faults _ _ _ _ _ _ _ _ (c .before .before .before .before .before .before .before .before .loop-test .taken) (c .before .before .before .before .before .step .ensures) _ (c .before .enum-told .given .1) (λ k e. c .why .ensures _ _ _ k e) ∙ c .before .before .before .before .before .before .before .before .before .loop .inv .1 .1 .1 .1
 
 loop-again : tie.Need-loop-again Inv-loop μ-loop
-loop-again c = (omega arith, (c .before .before .before .before .before .step .ensures .eleven, (c .before .before .before .before .before .step .kept .1 .1 .1 .1 .1 .1 .1 .0 ∙ c .before .before .before .before .before .before .before .before .before .loop .inv .1 .1 .0, run-goes _ _ _ _ _ _ _ _ (c .before .before .before .before .before .before .before .before .loop-test .taken) (c .before .before .before .before .before .step .ensures) _ _ (c .before .pc2 .given .1) ∙ c .before .before .before .before .before .before .before .before .before .loop .inv .1 .1 .1)))
+loop-again c = (omega arith, (c .before .before .before .before .before .step .ensures .sixteen, (go-narrow (c .before .before .before .before .before .step .ensures) _ _ (c .before .pc2 .given .1), (c .before .before .before .before .before .step .kept .1 .1 .1 .1 .1 .1 .1 .0 ∙ c .before .before .before .before .before .before .before .before .before .loop .inv .1 .1 .1 .0, run-goes _ _ _ _ _ _ _ _ (c .before .before .before .before .before .before .before .before .loop-test .taken) (c .before .before .before .before .before .step .ensures) _ _ (c .before .pc2 .given .1) ∙ c .before .before .before .before .before .before .before .before .before .loop .inv .1 .1 .1 .1))))
 
 same-length-3 : tie.Need-same-length-3 Inv-loop μ-loop
-same-length-3 c = c .before .loop .inv .1 .1 .0
+same-length-3 c = c .before .loop .inv .1 .1 .1 .0
 
 returns-3 : tie.Need-returns-3 Inv-loop μ-loop
-returns-3 c = run-spent _ _ _ _ _ _ _ _ (c .loop-test .left) ∙ c .before .loop .inv .1 .1 .1
+returns-3 c = run-spent _ _ _ _ _ _ _ _ (c .loop-test .left) ∙ c .before .loop .inv .1 .1 .1 .1
 
 pub run-spec : {M : Type 1} → statement M
 run-spec =
     tie.close
     (tie.spec
     Inv-loop μ-loop (λ c. search needs) (λ c. search needs) (λ c. search needs) loop-holds (λ c. search needs)
-    step-requires (λ c. search needs) (λ c. search needs) same-length returns (λ c. search needs) same-length-2
-    returns-2 (λ c. search needs) loop-again same-length-3 returns-3)
+    step-requires (λ c. search needs) (λ c. search needs) same-length returns (λ c. search needs) why-requires
+    same-length-2 returns-2 (λ c. search needs) loop-again same-length-3 returns-3)

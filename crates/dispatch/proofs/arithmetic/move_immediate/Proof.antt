@@ -1,18 +1,23 @@
--- `move_immediate`: a fault of the tests, or what `keep` leads to.
+-- `move_immediate`: a stop at a test, or what `keep` leads to.
 -- Assumes nothing.
-use Rattle.dispatch.proofs.Answers.{stops, passes}
+use mathlib.Core.Path.{refl}
+use borrow.Author.Tests.{not-true, not-false, le-leb, lt-leb}
+use Rattle.dispatch.proofs.Answers.{unfit, writing, stops, passes}
 use borrow.Author.Needs.{needs}
 use Rattle.dispatch.proofs.arithmetic.move_immediate.Statement.{statement}
 use Rattle.dispatch.proofs.arithmetic.move_immediate.Tie as tie
 
 returns : tie.Need-returns
-returns c = λ m. stops _ _ _ _ (c .before .before .before .tested .ensures) _ (c .before .c .given .1) _ _ m (search needs) _ _ _
+returns c = λ m. stops _ _ _ (unfit (not-true _ (c .if1 .taken))) _ _ m (search needs) _ _ _
 
 returns-2 : tie.Need-returns-2
-returns-2 c = λ m. passes _ _ _ _ (c .before .before .before .before .tested .ensures) (c .before .before .enum-told .given .1) _ _ _ _ _ (c .keep .ensures m)
+returns-2 c = λ m. stops _ _ _ (writing (le-leb 10 _ (c .if2 .taken))) _ _ m (search needs) _ _ _
+
+returns-3 : tie.Need-returns-3
+returns-3 c = λ m. passes _ _ _ (not-false _ (c .before .before .before .if1 .left)) (lt-leb 10 _ (c .before .before .if2 .left)) refl (c .keep .ensures m)
 
 pub move-immediate-spec : {M : Type 1} → statement M
 move-immediate-spec =
     tie.close
     (tie.spec
-    (λ c κs. search needs) (λ c. search needs) (λ c. search needs) (λ c κs. search needs) returns returns-2)
+    returns returns-2 (λ c κs. search needs) returns-3)

@@ -1,19 +1,25 @@
--- `move_register`: a fault of the tests, or what `keep` leads to.
+-- `move_register`: a stop at a test, or what `keep` leads to.
 -- Assumes nothing.
-use Rattle.dispatch.proofs.Answers.{stops, passes}
+use borrow.Author.Tests.{not-true, not-false, le-leb, lt-leb}
+use Rattle.dispatch.proofs.Answers.{unfit, writing, reading, stops, passes, told}
 use borrow.Author.Needs.{needs}
 use Rattle.dispatch.proofs.arithmetic.move_register.Statement.{statement}
 use Rattle.dispatch.proofs.arithmetic.move_register.Tie as tie
 
 returns : tie.Need-returns
-returns c = λ m. stops _ _ _ _ (rw (c .before .before .before .before .has .ensures) at (c .before .before .before .tested .ensures)) _ (c .before .c .given .1) _ _ m (search needs) _ _ _
+returns c = λ m. stops _ _ _ (unfit (not-true _ (c .if1 .taken))) _ _ m (search needs) _ _ _
 
 returns-2 : tie.Need-returns-2
-returns-2 c = λ m. passes _ _ _ _ (rw (c .before .before .before .before .before .has .ensures) at (c .before .before .before .before .tested .ensures)) (c .before .before .enum-told .given .1) _ _ _ _ _ (c .keep .ensures m)
+returns-2 c = λ m. stops _ _ _ (writing (le-leb 10 _ (c .if2 .taken))) _ _ m (search needs) _ _ _
+
+returns-3 : tie.Need-returns-3
+returns-3 c = λ m. stops _ _ _ (reading (told _ _ _ (c .before .has .ensures) (c .if3 .taken))) _ _ m (search needs) _ _ _
+
+returns-4 : tie.Need-returns-4
+returns-4 c = λ m. passes _ _ _ (not-false _ (c .before .before .before .before .before .if1 .left)) (lt-leb 10 _ (c .before .before .before .before .if2 .left)) (told _ _ _ (c .before .before .before .has .ensures) (c .before .before .if3 .left)) (c .keep .ensures m)
 
 pub move-register-spec : {M : Type 1} → statement M
 move-register-spec =
     tie.close
     (tie.spec
-    (λ c κs. search needs) (λ c κs. search needs) (λ c. search needs) (λ c. search needs) (λ c κs. search needs)
-    returns returns-2)
+    returns returns-2 (λ c κs. search needs) returns-3 (λ c κs. search needs) returns-4)

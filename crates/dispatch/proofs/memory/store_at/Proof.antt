@@ -9,7 +9,7 @@ use Rattle.dispatch.proofs.memory.store_at.Tie as tie
 
 returns : tie.Need-returns
 unfolding address
-returns c = λ rec P g e. leads-to (store-made _ g _ _ _ _ _ _ (rw (← c .before .before .before .before .before .before .extend16 .ensures, ← c .before .before .before .before .before .wrapping-add-u64 .ensures) (sym (c .before .before .before .store .ensures .0) ∙ c .if1 .taken)) _ (rw (← c .before .before .before .before .before .before .extend16 .ensures, ← c .before .before .before .before .before .wrapping-add-u64 .ensures) (simp (c .if1 .taken) at (c .before .before .before .store .ensures .1)))) (leads-go _ _ _ _ _ e _ _ _ _ refl)
+returns c = λ rec P g e. leads-to (store-made _ g _ _ _ _ _ _ (rw (← c .before .before .before .before .before .before .extend16 .ensures, ← c .before .before .before .before .before .wrapping-add-u64 .ensures) (sym (c .before .before .before .store .ensures .0) ∙ c .if1 .taken)) _ (rw (← c .before .before .before .before .before .before .extend16 .ensures, ← c .before .before .before .before .before .wrapping-add-u64 .ensures) (simp (c .if1 .taken) at (c .before .before .before .store .ensures .1)))) (leads-go _ _ _ _ _ e _ _ _ _ (c .before .before .before .before .before .before .before .before .pre .mask-low) refl)
 
 returns-2 : tie.Need-returns-2
 unfolding address

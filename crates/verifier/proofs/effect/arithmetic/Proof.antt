@@ -1,28 +1,16 @@
--- `arithmetic`: both operands are read; MOV reads one.
+-- `arithmetic`: two known numbers are calculated with as words, others as what is held.
 -- Assumes nothing.
-use mathlib.Core.Path.{sym}
+use Rattle.verifier.proofs.Singles.{both-are-told, what-words-make}
 use borrow.Author.Needs.{needs}
-use Rattle.verifier.proofs.Outcomes.{no-move}
 use Rattle.verifier.proofs.effect.arithmetic.Statement.{statement}
 use Rattle.verifier.proofs.effect.arithmetic.Tie as tie
 
-calculated-requires : tie.Need-calculated-requires
-calculated-requires c κs = no-move _ (c .before .match .keys2)
-
 returns : tie.Need-returns
-returns c = rw (c .before .enum-told .given .1, sym (c .before .before .before .operand-held .ensures)) (c .moved .ensures _)
-
-returns-2 : tie.Need-returns-2
-returns-2 c = rw (sym (c .before .before .before .operand-held .ensures), sym (c .before .register .ensures .0)) (c .calculated .ensures)
+returns c = let known = both-are-told _ _ (c .before .before .before .before .before .first .given .1) (c .before .before .before .before .before .before .before .singles-at .ensures) in what-words-make _ _ _ (search needs) (search needs) _ _ _ _ _ _ _ _ (known .0) (known .1) (c .before .before .before .word-of .ensures) (c .before .before .exactly .ensures) (c .before .plain .ensures) (c .put .ensures)
 
 pub arithmetic-spec : {M : Type 1} → statement M
 arithmetic-spec =
     tie.close
     (tie.spec
-    (λ c κs. search needs)
-    (λ c. search needs)
-    (λ c κs. search needs)
-    (λ c κs. search needs)
-    calculated-requires
-    returns
-    returns-2)
+    (λ c κs. search needs) (λ c. search needs) (λ c κs. search needs) (λ c κs. search needs) (λ c κs. search needs)
+    (λ c κs. search needs) (λ c. search needs) (λ c κs. search needs) returns (λ c. search needs))

@@ -11,7 +11,7 @@ use Rattle.verifier.proofs.send.proceed.Tie as tie
 
 returns : tie.Need-returns
 unfolding distribute apply effectIn
-returns c = rw (c .before .before .before .before .before .if1 .taken) (a-step-with-no-second _ _ _ _ _ _ (c .before .before .send-with .ensures))
+returns c = rw (c .before .before .before .before .before .if1 .taken) (a-step-with-no-second _ _ _ _ _ _ (c .before .before .put-next .ensures))
 
 returns-2 : tie.Need-returns-2
 unfolding distribute apply effectIn
@@ -29,7 +29,6 @@ pub proceed-spec : {M : Type 1} → statement M
 proceed-spec =
     tie.close
     (tie.spec
-    (λ c. search needs)
     (λ c κs. search needs)
     (λ c. search needs)
     returns

@@ -1,0 +1,18 @@
+-- `put_next`: where nothing waits the state is changed at its new place, elsewhere before it is sent.
+-- Assumes nothing.
+use native.Mathlib.Omega.{arith}
+use Rattle.verifier.proofs.Steps.{what-is-sent-arrives}
+use borrow.Author.Needs.{needs}
+use Rattle.verifier.proofs.send.put_next.Statement.{statement}
+use Rattle.verifier.proofs.send.put_next.Tie as tie
+
+returns : tie.Need-returns
+returns c = what-is-sent-arrives _ _ _ _ _ _ _ (search needs) (c .before .before .arrive-with .ensures)
+
+pub put-next-spec : {M : Type 1} → statement M
+put-next-spec =
+    tie.close
+    (tie.spec
+    (λ c. search needs) (λ c. search needs) (λ c. search needs) (λ c. search needs) (λ c. search needs)
+    (λ c κs. search needs) (λ c. search needs) (λ c. search needs) returns (λ c. search needs)
+    (λ c κs. search needs) (λ c. search needs) (λ c. search needs))
