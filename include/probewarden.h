@@ -54,7 +54,7 @@ extern "C" {
 
 #define PW_REASON 0
 #define PW_PLACE 1 /* the index of the instruction; 0 for reasons 1 and 2 */
-#define PW_WORK 2  /* instructions looked at and values of registers copied or joined: at most 24 for each instruction, and 11 */
+#define PW_WORK 2  /* instructions looked at and values of registers copied or joined: at most 25 for each instruction, and 11 */
 #define PW_WORDS 0
 
 #define PW_VALUE 0
@@ -70,6 +70,7 @@ extern "C" {
 #define PW_REASON_WRITES_R10 4      /* r10, the address of the stack's end, would be written */
 #define PW_REASON_JUMPS_BACK 5      /* a jump's offset is negative */
 #define PW_REASON_LEAVES 6          /* a jump leads past the end, or the last instruction is neither an exit nor a jump */
+#define PW_REASON_DEAD_CODE 12      /* no path leads to the instruction, whatever the values: nothing goes on or jumps to it */
 #define PW_REASON_READS_UNSET 7     /* a register may be read that was not set */
 #define PW_REASON_OUTSIDE 8         /* a load or store may lie outside the record and the stack, or a store may hit the record */
 #define PW_REASON_LEAKS_ADDRESS 9   /* the outcome could depend on an address */
@@ -89,7 +90,7 @@ extern "C" {
 uint64_t pw_scratch_words(uint64_t instructions);
 
 /* Whether a program may be taken for records of record_len bytes: PW_ACCEPTED, PW_REFUSED, PW_SCRATCH_TOO_SMALL or PW_NO_ROOM. Any bytes
- * are answered. Scratch memory is too small only where the program passes the tests on form (reasons 1 to 6). Only scratch and the first
+ * are answered. Scratch memory is too small only where the program passes the tests on form (reasons 1 to 6 and 12). Only scratch and the first
  * three words of answer are changed. */
 uint64_t pw_verify(const uint8_t *program, size_t program_len, uint64_t record_len, uint64_t *scratch, size_t scratch_words,
                    uint64_t *answer, size_t answer_words);

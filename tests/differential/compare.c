@@ -19,9 +19,11 @@ enum property { SAME_RUN, REFUSAL, GUARDS, FORM, SCRATCH, THEOREM, PROPERTIES };
 
 static const char *const property_names[PROPERTIES] = {"run", "refusal", "guards", "form", "scratch", "theorem"};
 
+enum { REASONS = 13 }; /* 0 is accepted; 10 and 11 are none */
+
 struct tally {
     uint64_t programs, checks[PROPERTIES], failures[PROPERTIES];
-    uint64_t outcomes[4], faults[6], reasons[10], tightened;
+    uint64_t outcomes[4], faults[6], reasons[REASONS], tightened;
 };
 
 struct options {
@@ -145,11 +147,11 @@ static int is_refused_alike(const struct verification *v, struct ref_form form) 
     return v->code == PW_REFUSED && v->words[PW_REASON] == form.reason && v->words[PW_PLACE] == form.place;
 }
 
-/* With scratch memory of full size: reasons 1 to 6 and their place are exact; else accepted, or refused for the values. */
+/* With scratch memory of full size: reasons 1 to 6 and 12 and their place are exact; else accepted, or refused for the values. */
 static int is_proper_answer(const struct verification *v, struct ref_form form, uint64_t n) {
     if (form.reason != 0)
         return is_refused_alike(v, form);
-    if (v->words[PW_WORK] > 24 * n + 11)
+    if (v->words[PW_WORK] > 25 * n + 11)
         return 0;
     if (v->code == PW_ACCEPTED)
         return v->words[PW_REASON] == 0 && v->words[PW_PLACE] == 0;
@@ -191,7 +193,7 @@ static int try_verify(struct trial *t, uint64_t record_len) {
     t->tally->checks[FORM]++;
     if (!is_proper_answer(&v, form, n))
         show_verification(t, FORM, record_len, needed, form, &v);
-    t->tally->reasons[v.code == PW_ACCEPTED ? 0 : v.words[PW_REASON] % 10]++;
+    t->tally->reasons[v.code == PW_ACCEPTED ? 0 : v.words[PW_REASON] % REASONS]++;
     if (one_in(&t->source, 8))
         try_other_scratch(t, record_len, needed, form, &v);
     t->tally->checks[SCRATCH]++;
@@ -507,6 +509,7 @@ static void print_tally(enum kind kind, const struct tally *tally) {
     print_counts("verdict, fault, budget, refused:", tally->outcomes, 0, 4);
     print_counts("faults 1 to 5:", tally->faults, 1, 6);
     print_counts("reasons 1 to 9:", tally->reasons, 1, 10);
+    print_counts("reason 12:", tally->reasons, 12, REASONS);
     for (int k = 0; k < PROPERTIES; k++)
         printf("  %s %s: %llu checks, %llu failures\n", tally->failures[k] != 0 ? "FAIL" : tally->checks[k] != 0 ? "pass" : "none",
                property_names[k], (wide)tally->checks[k], (wide)tally->failures[k]);
@@ -515,11 +518,11 @@ static void print_tally(enum kind kind, const struct tally *tally) {
 /* Every outcome, fault and reason was met somewhere, and enough programs were accepted. */
 static int is_covered(const struct tally *tallies) {
     int covered = tallies[KIND_ACCEPTABLE].reasons[0] >= ACCEPTED_AIM;
-    for (int k = 0; k < 15; k++) {
+    for (int k = 0; k < 19; k++) {
         uint64_t met = 0;
         for (int kind = 0; kind < KINDS; kind++) {
             const struct tally *y = &tallies[kind];
-            met += k < 4 ? y->outcomes[k] : k < 9 ? y->faults[k - 3] : y->reasons[k - 8];
+            met += k < 4 ? y->outcomes[k] : k < 9 ? y->faults[k - 3] : k < 18 ? y->reasons[k - 8] : y->reasons[12];
         }
         covered = covered && met != 0;
     }

@@ -194,6 +194,12 @@ static int some_jump(struct source *s, size_t room) {
     return (int)below(s, room < 6 ? room + 1 : 6);
 }
 
+/* A way around the instruction that comes next, so that what follows it is reached; one in six is left out, and leaves dead code. */
+static void emit_way_around(struct source *s, struct program *p, unsigned reg) {
+    if (!one_in(s, 6))
+        emit(p, conditions[below(s, COUNT(conditions))], reg, 0, 1, some_immediate(s));
+}
+
 /* One instruction with this opcode; so many follow it. */
 static void emit_any(struct source *s, struct program *p, unsigned opcode, size_t room) {
     unsigned dst = some_register(s), src = opcode & BY_REGISTER ? (unsigned)below(s, 11) : 0;
@@ -235,6 +241,8 @@ static void generate_structured(struct source *s, struct program *p) {
         unsigned opcode = opcodes[below(s, COUNT(opcodes))];
         if (opcode == EXIT && !one_in(s, 3))
             opcode = MOV | ON_64 | BY_REGISTER;
+        if (body > 0 && emitted(p) < 4094 && (opcode == EXIT || opcode == JA))
+            emit_way_around(s, p, (unsigned)(2 + below(s, 8)));
         emit_any(s, p, opcode, body);
     }
     if (!one_in(s, 60))
@@ -391,9 +399,11 @@ static void emit_indexed_access(struct text *t) {
 static void emit_branch(struct text *t) {
     unsigned condition = conditions[below(t->s, COUNT(conditions))];
     size_t skip = below(t->s, 4);
-    if (one_in(t->s, 10))
+    if (one_in(t->s, 10)) {
+        if (skip > 0)
+            emit_way_around(t->s, t->p, some_number(t));
         emit_leap(t, JA, 0, 0, 0, skip);
-    else if (one_in(t->s, 3))
+    } else if (one_in(t->s, 3))
         emit_leap(t, condition | BY_REGISTER, some_number(t), some_number(t), 0, skip);
     else
         emit_leap(t, condition, some_number(t), 0, some_immediate(t->s), skip);
@@ -635,9 +645,10 @@ static void generate_corner(struct source *s, struct program *p, uint64_t number
         emit_constant(p, 2, d);
         emit_constant(p, 3, second);
         emit(p, MOV | ON_64, 0, 0, 0, 7);
-        if (opcode == EXIT || opcode == JA)
+        if (opcode == EXIT || opcode == JA) {
+            emit(p, JNE, 0, 0, 1, 7); /* never taken; without it what follows is dead */
             emit(p, opcode, 0, 0, opcode == JA, 0);
-        else
+        } else
             emit(p, opcode, 2, src, is_conditional(opcode), imm);
         emit(p, ADD | ON_64, 0, 0, 0, 1); /* a jump skips this */
         emit(p, 0x7b, 10, 0, -16, 0);

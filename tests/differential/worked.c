@@ -62,6 +62,11 @@ static size_t read_program(const char *text, uint8_t *bytes) {
 #define LOW_HALF                                                                                                                          \
     "7912000000000000 bc23000000000000 250303000f000000 0f21000000000000 7110010000000000 9500000000000000 b700000000000000 "             \
     "9500000000000000"
+#define AFTER_EXIT "b700000000000000 9500000000000000 9500000000000000"
+#define AFTER_JA "b700000000000000 0500010000000000 b700000001000000 9500000000000000"
+#define DEAD_JUMPS "b700000000000000 0500010000000000 0500010000000000 9500000000000000 9500000000000000"
+#define NEVER_TAKEN "b700000000000000 5500010000000000 9500000000000000 9500000000000000"
+#define DEAD_AND_NONE "b700000000000000 9500000000000000 8f00000000000000 9500000000000000"
 
 #define P_LOW ((uint64_t)0x100000)
 #define S_LOW ((uint64_t)0x80000)
@@ -130,7 +135,7 @@ static void try_worked_run(const struct worked_run *w) {
     count(good, w->name, "run of the library");
 }
 
-/* ---- verifications (document 03, sections 2 and 5); reason 0: accepted; any of 7 to 9: ANY */
+/* ---- verifications (document 03, sections 2 and 5, and dead code); reason 0: accepted; any of 7 to 9: ANY */
 
 enum { ANY = 10 };
 
@@ -167,6 +172,11 @@ static const struct worked_verification {
     {"low half tested", LOW_HALF, 1024, 8, 4},
     {"K3, R 1024", K3, 1024, 0, 0},
     {"K3, R 1025", K3, 1025, 2, 0},
+    {"after EXIT", AFTER_EXIT, 8, 12, 2},
+    {"after JA", AFTER_JA, 8, 12, 2},
+    {"dead code that jumps", DEAD_JUMPS, 8, 12, 2},
+    {"a jump never taken", NEVER_TAKEN, 8, 0, 0},
+    {"dead code and no instruction", DEAD_AND_NONE, 8, 3, 2},
 };
 
 static void try_worked_verification(const struct worked_verification *w) {
@@ -178,7 +188,7 @@ static void try_worked_verification(const struct worked_verification *w) {
     int reason_fits = w->reason == ANY ? answer[PW_REASON] >= 7 && answer[PW_REASON] <= 9 : answer[PW_REASON] == w->reason;
     count(code == (w->reason == 0 ? PW_ACCEPTED : PW_REFUSED) && reason_fits && answer[PW_PLACE] == w->place, w->name,
           "verification by the library");
-    count(w->reason > 6 ? form.reason == 0 : form.reason == w->reason && form.place == w->place, w->name, "form by the reference");
+    count(w->reason > 6 && w->reason != 12 ? form.reason == 0 : form.reason == w->reason && form.place == w->place, w->name, "form by the reference");
 }
 
 /* ---- every opcode, with every byte of registers, and off and imm of 0, 1 and -1 */
@@ -186,7 +196,7 @@ static void try_worked_verification(const struct worked_verification *w) {
 static uint64_t library_says(const uint8_t *program, size_t length, uint64_t *place) {
     uint64_t answer[PW_ANSWER_WORDS];
     uint64_t code = pw_verify(program, length, 0, scratch, length / 8 * 56, answer, PW_ANSWER_WORDS);
-    uint64_t reason = code == PW_REFUSED && answer[PW_REASON] <= 6 ? answer[PW_REASON] : 0;
+    uint64_t reason = code == PW_REFUSED && (answer[PW_REASON] <= 6 || answer[PW_REASON] == 12) ? answer[PW_REASON] : 0;
     *place = reason == 0 ? 0 : answer[PW_PLACE];
     return reason;
 }

@@ -157,7 +157,7 @@ static int verify_answer_is_right(uint64_t code, uint64_t length, uint64_t recor
         return code == PW_REFUSED && answer[PW_REASON] == 6 && answer[PW_PLACE] == 0;
     if (scratch_words < 56 * n)
         return code == PW_SCRATCH_TOO_SMALL && answer[PW_WORDS] == 56 * n && answer[1] == 0 && answer[2] == 0;
-    return code == PW_ACCEPTED && answer[PW_WORK] <= 24 * n + 11;
+    return code == PW_ACCEPTED && answer[PW_WORK] <= 25 * n + 11;
 }
 
 static void verify_once(uint64_t length, uint64_t record_len, size_t scratch_words, size_t answer_words) {
@@ -216,6 +216,11 @@ static void test_form_without_scratch(void) {
     program[32760] = 0x85;
     code = pw_verify(program, 32768, 1024, NULL, 0, answer, PW_ANSWER_WORDS);
     expect(code == PW_REFUSED && answer[PW_REASON] == 3 && answer[PW_PLACE] == 4095, code, answer[0], answer[1], 1);
+    program[32760] = program[32752] = 0x95;
+    memset(program + 32753, 0, 7);
+    memset(program + 32761, 0, 7);
+    code = pw_verify(program, 32768, 1024, NULL, 0, answer, PW_ANSWER_WORDS);
+    expect(code == PW_REFUSED && answer[PW_REASON] == 12 && answer[PW_PLACE] == 4095, code, answer[0], answer[1], 2);
     end();
 }
 
@@ -426,16 +431,17 @@ static void test_name_at_size(namer *name_of, uint64_t number, const char *whole
     expect(put == wanted && memcmp(room, whole, wanted) == 0 && is_painted(room, wanted, sizeof room), number, size, put, 0);
 }
 
-static void test_names(const char *title, namer *name_of, uint64_t last, const char *none) {
+/* Numbers up to `last`, and one more. */
+static void test_names(const char *title, namer *name_of, uint64_t last, uint64_t more, const char *none) {
     static const uint64_t far[] = {255, 256, 257, ((uint64_t)1 << 32) + 1, (uint64_t)1 << 63, UINT64_MAX};
     char names[16][NAME_ROOM], room[NAME_ROOM];
     begin(title);
     for (uint64_t number = 0; number < 16; number++) {
         size_t size = name_of(number, names[number], 32);
-        int is_named = number >= 1 && number <= last;
+        int is_named = (number >= 1 && number <= last) || number == more;
         expect(size >= 2 && size <= 32 && strlen(names[number]) + 1 == size, number, size, 0, 1);
         expect((strcmp(names[number], none) != 0) == is_named, number, size, 0, 2);
-        for (uint64_t other = 1; is_named && other < number; other++)
+        for (uint64_t other = 1; is_named && other < number && other <= last; other++)
             expect(strcmp(names[number], names[other]) != 0, number, other, 0, 3);
         for (size_t k = 0; k <= NAME_ROOM; k++)
             test_name_at_size(name_of, number, names[number], size, k);
@@ -462,8 +468,8 @@ int main(void) {
     test_run_shared();
     test_run_probe();
     test_example();
-    test_names("pw_reason_name at every size", pw_reason_name, 9, "no reason");
-    test_names("pw_fault_name at every size", pw_fault_name, 5, "no fault");
+    test_names("pw_reason_name at every size", pw_reason_name, 9, 12, "no reason");
+    test_names("pw_fault_name at every size", pw_fault_name, 5, 5, "no fault");
     printf("%u passed, %u failed\n", passed, failed);
     return failed != 0;
 }

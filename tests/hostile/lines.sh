@@ -89,7 +89,7 @@ check() {
     awk -v repeat="SEED=$seed tests/hostile/lines.sh show" '
         function fits(kind, a) {
             if (a == "error") return 1
-            if (kind == "verify") return a ~ /^(0 0|[12] 0|[3-9] [0-9]+)$/
+            if (kind == "verify") return a ~ /^(0 0|[12] 0|([3-9]|12) [0-9]+)$/
             if (kind == "run") return a ~ /^(refused|verdict [0-9]+ [0-9]+|fault [1-5] [0-9]+|budget [0-9]+)$/
             if (kind == "kb") return a ~ /^[0-9a-f]+\/[0-9a-f]+$/
             return 0

@@ -1,4 +1,4 @@
-/* form.c: the verifier's tests on form, reasons 1 to 6, in the order of document 03 and from the documents only.
+/* form.c: the verifier's tests on form, reasons 1 to 6 and 12, in the order of the documents and from the documents only.
  * An independent reference for tests: it shares no code with the product. */
 #include "reference.h"
 
@@ -23,6 +23,28 @@ static uint64_t reason_at(const uint8_t *program, uint64_t index, uint64_t n) {
     return 0;
 }
 
+/* Marks what the instruction at this index may lead to: the next one, unless it is EXIT or JA, and a jump's target. */
+static void mark_ways_out(const uint8_t *program, uint64_t index, uint8_t *reached) {
+    struct ref_instruction i;
+    ref_decode(program + index * REF_INSTRUCTION_BYTES, &i);
+    if (ref_is_jump(&i))
+        reached[(int64_t)index + 1 + i.off] = 1;
+    if (!ref_is_exit(&i) && !(ref_is_jump(&i) && i.operation == REF_JA))
+        reached[index + 1] = 1;
+}
+
+/* The lowest index that no path from index 0 reaches, in a program whose jumps all go forward and stay inside; n if there is none. All
+ * that leads to an index lies before it, so its mark is final when it is looked at. */
+static uint64_t first_dead(const uint8_t *program, uint64_t n) {
+    uint8_t reached[REF_MAX_INSTRUCTIONS + 1] = {1};
+    for (uint64_t index = 0; index < n; index++) {
+        if (!reached[index])
+            return index;
+        mark_ways_out(program, index, reached);
+    }
+    return n;
+}
+
 struct ref_form ref_form(const uint8_t *program, uint64_t program_len, uint64_t record_len) {
     uint64_t n = program_len / REF_INSTRUCTION_BYTES;
     struct ref_form form = {0, 0};
@@ -40,6 +62,11 @@ struct ref_form ref_form(const uint8_t *program, uint64_t program_len, uint64_t 
             form.place = index;
             return form;
         }
+    }
+    uint64_t dead = first_dead(program, n);
+    if (dead < n) {
+        form.reason = 12;
+        form.place = dead;
     }
     return form;
 }

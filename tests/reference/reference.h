@@ -1,5 +1,5 @@
 /* reference.h: a second, independent description of the probe machine and of the verifier's tests on form.
- * Written from documents 01 and 03 only; it shares no code with the product. */
+ * Written from documents 01 and 03, and dead code from document 02; it shares no code with the product. */
 #ifndef REFERENCE_H
 #define REFERENCE_H
 
@@ -66,10 +66,10 @@ struct ref_run {
 
 void ref_run(const uint8_t *program, uint64_t program_len, const struct ref_place *place, uint64_t budget, struct ref_run *run);
 
-/* ---- tests on form (document 03, section 1) */
+/* ---- tests on form (document 03, section 1, and dead code) */
 
 struct ref_form {
-    uint64_t reason; /* 1 to 6; 0 if the program has the form */
+    uint64_t reason; /* 1 to 6 or 12; 0 if the program has the form */
     uint64_t place;
 };
 

@@ -1,5 +1,5 @@
--- The tests on form are exact: a program passes them if and only if it has the form, and a refusal names the lowest index that fails, with
--- the lowest reason there. Assumes nothing.
+-- The tests with the reasons 1 to 6 are exact: a program passes them if and only if it is orderly, and a refusal names the lowest index that
+-- fails, with the lowest reason there. Assumes nothing.
 use mathlib.Core.Path.{_≡_, refl, sym, ap, _∙_, subst}
 use mathlib.Core.Bool.{Bool, true, false, cond, not, _&&_, _||_, true≢false}
 use mathlib.Core.Logic.{_↔_, _⊎_, inl, inr, ⊎-elim}
@@ -15,10 +15,10 @@ use Rattle.machine.specs.declared.instruction.Instruction.{Instruction}
 use Rattle.machine.specs.Instruction.{writes}
 use Rattle.machine.specs.Machine.{isNoInstruction, names10, badProgram, badRecord}
 use Rattle.analysis.specs.declared.Reason.{Reason}
-use Rattle.analysis.specs.declared.Reason.the-variants.{BadLength, LongRecord, NoCode, WritesR10, JumpsBack, JumpsOut, ReadsUnset, Outside, LeaksAddress}
+use Rattle.analysis.specs.declared.Reason.the-variants.{BadLength, LongRecord, NoCode, WritesR10, JumpsBack, JumpsOut, ReadsUnset, Outside, LeaksAddress, DeadCode}
 use Rattle.analysis.specs.declared.Finding.{Finding}
 use Rattle.analysis.specs.declared.Finding.the-variants.{Accepted, Refused}
-use Rattle.analysis.specs.Form.{instruction, offOf, goesBack, goesOut, mayBeLast, failing, Fine, HasForm}
+use Rattle.analysis.specs.Form.{instruction, offOf, goesBack, goesOut, mayBeLast, failing, Fine, Orderly}
 use Rattle.analysis.specs.Judged.{reasonNumber, orElse, formed}
 use Rattle.analysis.proofs.Annotated.{refused-not-accepted}
 
@@ -34,6 +34,7 @@ Fails JumpsOut n i ins = (goesOut n i (offOf ins) ≡ true) ⊎ ((i + 1 ≡ n) �
 Fails ReadsUnset n i ins = ⊥
 Fails Outside n i ins = ⊥
 Fails LeaksAddress n i ins = ⊥
+Fails DeadCode n i ins = ⊥
 
 -- it fails there with this reason and with no lower one
 pub record FailsFirst (reason : Reason) (n i : ℕ) (ins : Instruction) : Type 0 where
@@ -122,6 +123,7 @@ module _ (n i : ℕ) (ins : Instruction) where
   none-below-no-code ReadsUnset l h = h
   none-below-no-code Outside l h = h
   none-below-no-code LeaksAddress l h = h
+  none-below-no-code DeadCode l h = h
 
   none-below-writes : isNoInstruction ins ≡ false → (r : Reason) → reasonNumber r < 4 → Fails r n i ins → ⊥
   unfolding reasonNumber
@@ -134,6 +136,7 @@ module _ (n i : ℕ) (ins : Instruction) where
   none-below-writes a ReadsUnset l h = h
   none-below-writes a Outside l h = h
   none-below-writes a LeaksAddress l h = h
+  none-below-writes a DeadCode l h = h
 
   none-below-back : isNoInstruction ins ≡ false → names10 (writes ins) ≡ false → (r : Reason) → reasonNumber r < 5 → Fails r n i ins → ⊥
   unfolding reasonNumber
@@ -146,6 +149,7 @@ module _ (n i : ℕ) (ins : Instruction) where
   none-below-back a b ReadsUnset l h = h
   none-below-back a b Outside l h = h
   none-below-back a b LeaksAddress l h = h
+  none-below-back a b DeadCode l h = h
 
   none-below-out : isNoInstruction ins ≡ false → names10 (writes ins) ≡ false → goesBack (offOf ins) ≡ false
       → (r : Reason) → reasonNumber r < 6 → Fails r n i ins → ⊥
@@ -159,6 +163,7 @@ module _ (n i : ℕ) (ins : Instruction) where
   none-below-out a b c ReadsUnset l h = h
   none-below-out a b c Outside l h = h
   none-below-out a b c LeaksAddress l h = h
+  none-below-out a b c DeadCode l h = h
 
   pub failing-first : (reason : Reason) → failing n i ins ≡ some reason → FailsFirst reason n i ins
   unfolding failing reasonNumber
@@ -235,13 +240,16 @@ refused-first program (suc k) i m reason place e =
           fine-before = λ x l b. absurd (omega arith);
         }))
 
-module _ (program : List ℕ) (R : ℕ) where
-  pub passes-has-form : badProgram (length program) ≡ false → badRecord R ≡ false → formed program (length program / 8) 0 ≡ Accepted → HasForm program R
-  passes-has-form p r f =
-      record { good-length = p; good-record = r; fine = λ i l. accepted-all program (length program / 8) 0 f i (omega arith) (omega arith) }
+pub passes-fine : (program : List ℕ) → formed program (length program / 8) 0 ≡ Accepted
+    → (i : ℕ) → i < length program / 8 → Fine (length program / 8) i (instruction program i)
+passes-fine program f i l = accepted-all program (length program / 8) 0 f i (omega arith) (omega arith)
 
-  pub has-form-passes : HasForm program R → formed program (length program / 8) 0 ≡ Accepted
-  has-form-passes h = all-accepted program (length program / 8) 0 (λ x l m. h .fine x (omega arith))
+module _ (program : List ℕ) (R : ℕ) where
+  pub passes-orderly : badProgram (length program) ≡ false → badRecord R ≡ false → formed program (length program / 8) 0 ≡ Accepted → Orderly program R
+  passes-orderly p r f = record { good-length = p; good-record = r; fine = passes-fine program f }
+
+  pub orderly-passes : Orderly program R → formed program (length program / 8) 0 ≡ Accepted
+  orderly-passes h = all-accepted program (length program / 8) 0 (λ x l m. h .fine x (omega arith))
 
 pub form-refusal : (program : List ℕ) (reason : Reason) (place : ℕ) → formed program (length program / 8) 0 ≡ Refused reason place → Refusal program reason 0 place
 form-refusal program reason place e = refused-first program (length program / 8) 0 (omega arith) reason place e

@@ -4,6 +4,7 @@ pub mod FormLaws
 pub mod Judgement
 pub mod LayoutFree
 pub mod Meaning
+pub mod Paths
 pub mod Programs
 pub mod Refusing
 pub mod Running

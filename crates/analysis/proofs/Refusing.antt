@@ -34,14 +34,14 @@ use Rattle.analysis.specs.declared.Effect.the-variants.{Refuse, Put, Kee
 use Rattle.analysis.specs.Values.{Facts, valueOf, operandOf, startFacts}
 use Rattle.analysis.specs.Effects.{isNever, isMixed, reading, readingBoth, put, Role, copies, converts, adds, subtracts, calculates, role, calculate, sum, difference, arithmetic, limit, load, storeAt, store, fork, exit, effect}
 use Rattle.analysis.specs.Form.{instruction, offOf, goesBack, goesOut, mayBeLast, Fine, HasForm}
-use Rattle.analysis.specs.Judged.{reasonNumber, Flow, refuses, flows, along, apply, Waiting, nobody, arrive, Progress, halted, onward, send, andThen, distribute, visit, Walk, conclude, pass, followed}
+use Rattle.analysis.specs.Judged.{onValues, Flow, refuses, flows, along, apply, Waiting, nobody, arrive, Progress, halted, onward, send, andThen, distribute, visit, Walk, conclude, pass, followed}
 use Rattle.analysis.proofs.Annotated.{refused-not-accepted}
 use Rattle.analysis.proofs.FormLaws.{refused-injective}
 use Rattle.analysis.proofs.Tests.{or-left, or-right}
 
 -- an effect at index i of n: a refusal is for values, and it goes nowhere but to a later index of the program
 abbrev pub Lawful : ℕ → ℕ → Effect → Type 0
-Lawful n i (Refuse reason) = 7 ≤ reasonNumber reason
+Lawful n i (Refuse reason) = onValues reason ≡ true
 Lawful n i (Put d v) = i + 1 < n
 Lawful n i Keep = i + 1 < n
 Lawful n i (Fork d s not-taken taken target) = (i + 1 < n) × (target < n) × (i < target)
@@ -49,17 +49,17 @@ Lawful n i (Goto target) = (target < n) × (i < target)
 Lawful n i Stop = Unit {0}
 
 module _ (n i : ℕ) where
-  unset-lawful : 7 ≤ reasonNumber ReadsUnset
-  unfolding reasonNumber
-  unset-lawful = omega arith
+  unset-lawful : onValues ReadsUnset ≡ true
+  unfolding onValues
+  unset-lawful = refl
 
-  outside-lawful : 7 ≤ reasonNumber Outside
-  unfolding reasonNumber
-  outside-lawful = omega arith
+  outside-lawful : onValues Outside ≡ true
+  unfolding onValues
+  outside-lawful = refl
 
-  leak-lawful : 7 ≤ reasonNumber LeaksAddress
-  unfolding reasonNumber
-  leak-lawful = omega arith
+  leak-lawful : onValues LeaksAddress ≡ true
+  unfolding onValues
+  leak-lawful = refl
 
   reading-lawful : (v : Value) (e : Effect) → Lawful n i e → Lawful n i (reading v e)
   unfolding reading
@@ -243,7 +243,7 @@ length-some l e =
     omega arith
 
 pub some-instruction : (program : List ℕ) (R : ℕ) → HasForm program R → 0 < length program / 8
-some-instruction program R form = length-some (length program) (form .good-length)
+some-instruction program R form = length-some (length program) (form .orderly .good-length)
 
 module _ (program : List ℕ) (R : ℕ) (form : HasForm program R) where
   abbrev Tells : ℕ → Waiting → Option Facts → Progress → Type 0
@@ -254,7 +254,7 @@ module _ (program : List ℕ) (R : ℕ) (form : HasForm program R) where
   unfolding visit
   visit-tells i l p work none = tt
   visit-tells i l p work (some a) =
-      go (effect R i a (instruction program i)) refl (halted-by (length program / 8) i p (work + 1) a (effect R i a (instruction program i)) (effect-lawful (length program / 8) i R a (instruction program i) l (form .fine i l)))
+      go (effect R i a (instruction program i)) refl (halted-by (length program / 8) i p (work + 1) a (effect R i a (instruction program i)) (effect-lawful (length program / 8) i R a (instruction program i) l (form .orderly .fine i l)))
     where
       goes-tells : (r : Progress) → Goes r → Tells i p (some a) r
       goes-tells (halted reason q k) g = absurd g
@@ -288,10 +288,10 @@ module _ (program : List ℕ) (R : ℕ) (form : HasForm program R) where
 
   pub followed-refused : (reason : Reason) (place : ℕ) → followed program R .finding ≡ Refused reason place → RefusedAt program R (followed program R) reason place
   unfolding followed conclude
-  followed-refused reason place e = go (send (length program / 8) 0 (some startFacts) nobody (length program / 8)) (λ w. start-goes w) e
+  followed-refused reason place e = go (send (length program / 8) 0 (some startFacts) nobody (2 * (length program / 8))) (λ w. start-goes w) e
     where
-      start-goes : 0 < length program / 8 → Goes (send (length program / 8) 0 (some startFacts) nobody (length program / 8))
-      start-goes l = send-goes (length program / 8) 0 (some startFacts) nobody (length program / 8) l
+      start-goes : 0 < length program / 8 → Goes (send (length program / 8) 0 (some startFacts) nobody (2 * (length program / 8)))
+      start-goes l = send-goes (length program / 8) 0 (some startFacts) nobody (2 * (length program / 8)) l
 
       go : (r : Progress) → (0 < length program / 8 → Goes r) → conclude r 0 (pass program R (length program / 8) 0) .finding ≡ Refused reason place
           → RefusedAt program R (conclude r 0 (pass program R (length program / 8) 0)) reason place
@@ -299,8 +299,8 @@ module _ (program : List ℕ) (R : ℕ) (form : HasForm program R) where
       go (onward q w) g h = pass-refused (length program / 8) 0 (omega arith) q w reason place h
 
   -- and so for no reason of form
-  pub followed-late : (reason : Reason) (place : ℕ) → followed program R .finding ≡ Refused reason place → 7 ≤ reasonNumber reason
-  followed-late reason place e =
+  pub followed-for-values : (reason : Reason) (place : ℕ) → followed program R .finding ≡ Refused reason place → onValues reason ≡ true
+  followed-for-values reason place e =
       let r = followed-refused reason place e in
       subst (Lawful (length program / 8) place) (r .refused)
-      (effect-lawful (length program / 8) place R (r .facts) (instruction program place) (r .inside) (form .fine place (r .inside)))
+      (effect-lawful (length program / 8) place R (r .facts) (instruction program place) (r .inside) (form .orderly .fine place (r .inside)))

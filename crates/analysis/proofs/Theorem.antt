@@ -19,7 +19,8 @@ use Rattle.analysis.specs.declared.Finding.the-variants.{Accepted, Refus
 use Rattle.analysis.specs.declared.Reason.the-variants.{BadLength, LongRecord}
 use Rattle.analysis.specs.declared.Judged.{Judged}
 use Rattle.analysis.specs.Values.{startFacts}
-use Rattle.analysis.specs.Judged.{Waiting, nobody, send, pass, formed, followed, onForm, judged}
+use Rattle.analysis.specs.Paths.{connected}
+use Rattle.analysis.specs.Judged.{Waiting, nobody, send, pass, formed, followed, onPaths, onForm, judged}
 use Rattle.analysis.specs.Safe.{Laid, Bytes, Answer, Safe}
 use Rattle.analysis.proofs.LayoutFree.{Config, startConfig, Comes}
 use Rattle.number.proofs.Laws.{exact-in}
@@ -108,8 +109,8 @@ module _ (program rec : List ℕ) (record-bytes : Bytes rec) (short : length pro
   pub followed-ends : followed program (length rec) .finding ≡ Accepted → Ends program rec startConfig (length program / 8)
   unfolding followed startConfig
   followed-ends e =
-      let t = accepted-onward (send (length program / 8) 0 (some startFacts) nobody (length program / 8)) 0 (pass program (length rec) (length program / 8) 0) _
-      (send-sends (length program / 8) 0 (some startFacts) nobody (length program / 8)) e in
+      let t = accepted-onward (send (length program / 8) 0 (some startFacts) nobody (2 * (length program / 8))) 0 (pass program (length rec) (length program / 8) 0) _
+      (send-sends (length program / 8) 0 (some startFacts) nobody (2 * (length program / 8))) e in
       let s = t .2 .1 startConfig start-described in
       let w = accepted-settled program rec record-bytes short (t .0) (t .1) (t .3) in
       let r = stable-ends program rec (w .facts) (w .stable) (λ c. length program / 8 - (c .index + 1)) (w .falls) startConfig (s .0) (w .covers startConfig (s .1)) in
@@ -121,18 +122,24 @@ pub record Passed (program : List ℕ) (R : ℕ) : Type 0 where
   pub good-length : badProgram (length program) ≡ false
   pub good-record : badRecord R ≡ false
   pub good-form : formed program (length program / 8) 0 ≡ Accepted
+  pub good-paths : connected program ≡ Accepted
   pub good-values : followed program R .finding ≡ Accepted
 
 pub accepted-passed : (program : List ℕ) (R : ℕ) → judged program R .finding ≡ Accepted → Passed program R
-unfolding judged onForm
+unfolding judged onForm onPaths
 accepted-passed program R e = go (badProgram (length program)) refl (badRecord R) refl (formed program (length program / 8) 0) refl e
   where
+    paths : badProgram (length program) ≡ false → badRecord R ≡ false → formed program (length program / 8) 0 ≡ Accepted
+        → (g : Finding) → connected program ≡ g → onPaths program R g .finding ≡ Accepted → Passed program R
+    paths p q f Accepted c a = record { good-length = p; good-record = q; good-form = f; good-paths = c; good-values = a }
+    paths p q f (Refused reason place) c a = absurd (refused-not-accepted _ _ a)
+
     go : (p : Bool) → badProgram (length program) ≡ p → (r : Bool) → badRecord R ≡ r → (f : Finding) → formed program (length program / 8) 0 ≡ f
         → cond p (record { finding = Refused BadLength 0; work = 0 }) (cond r (record { finding = Refused LongRecord 0; work = 0 }) (onForm program R f)) .finding ≡ Accepted
         → Passed program R
     go true p r q f h a = absurd (refused-not-accepted _ _ a)
     go false p true q f h a = absurd (refused-not-accepted _ _ a)
-    go false p false q Accepted h a = record { good-length = p; good-record = q; good-form = h; good-values = a }
+    go false p false q Accepted h a = paths p q h (connected program) refl a
     go false p false q (Refused reason place) h a = absurd (refused-not-accepted _ _ a)
 
 -- at most 4,096 instructions

@@ -15,14 +15,15 @@ use Rattle.number.specs.Compare.{settled, bounds, orderedIn, ordered, exchanged
 use Rattle.analysis.specs.Values.{valueOf, operandOf, startFacts, sameRegion, joinedGone, joinedValue, joinedValues, joinedFacts, meeting}
 use Rattle.analysis.specs.Effects.{isNever, isMixed, reading, readingBoth, put, role, calculate, limit, storeAt, store, fork, exit, effect}
 use Rattle.analysis.specs.Effects as effects
-use Rattle.analysis.specs.Form.{instruction, offOf, goesBack, goesOut, mayBeLast, failing}
-use Rattle.analysis.specs.Judged.{reasonNumber, pair, having, along, apply, nobody, arrive, send, andThen, distribute, visit, conclude, pass, orElse, formed, followed, onForm, judged}
+use Rattle.analysis.specs.Form.{instruction, offOf, goesBack, goesOut, mayBeLast, goesOn, failing}
+use Rattle.analysis.specs.Paths.{noTarget, aimed, reaching, connected}
+use Rattle.analysis.specs.Judged.{reasonNumber, pair, having, along, apply, nobody, arrive, send, andThen, distribute, visit, conclude, pass, orElse, formed, followed, onPaths, onForm, judged}
 use Rattle.analysis.specs.Judged as judgements
 use Rattle.analysis.proofs.Programs.{eight, program, K1, K2, K3, K4, K5, K6, K7, K8, X1, X2, X3, jset-240, byte-less-1, four-less-3, signed-15, low-half, stores-r1, leak-excluded, leak-possible, two-faults}
 
 -- the answer for a record of R bytes
 answer : List ℕ → ℕ → ℕ × ℕ
-unfolding eight program cut extend shiftSigned alu moved readBytes fields only lookup withOperand operations arithmetic comparisons jump loads storesOfImm storesOfSrc load storeOfImm storeOfSrc byClass meaning decode writes bits bytes isNoInstruction names10 badProgram badRecord low sum difference digits parity upTo fromBit among highestProduct productMask known product power quotient highestRest rest shiftedBy joined highestShifted leftMask signedRight shiftedUnknown single shifted formula calculated cleared met leadingZeros trailingZeros narrowed stillUnknown learnt sharpened just exact everything loaded joinedRange joinedNumber straight crossed sumRange differenceRange productRange quotientRange sameQuotient restRange longest leftRange signedRightRange ranged block modulo second computedRange computed fits settled bounds orderedIn ordered exchanged above common equalBy equal empty without apartFrom unequal resharpened disjointBy disjointOf disjoint overlappingOf overlapping turned firsts turnedBack signedOrdered signedAbove taken notTaken valueOf operandOf startFacts sameRegion joinedGone joinedValue joinedValues joinedFacts meeting isNever isMixed reading readingBoth put role calculate effects.sum effects.difference effects.arithmetic limit effects.load storeAt store fork exit effect instruction offOf goesBack goesOut mayBeLast failing reasonNumber pair having judgements.withOperand along apply nobody arrive send andThen distribute visit conclude pass orElse formed followed onForm judged
+unfolding eight program cut extend shiftSigned alu moved readBytes fields only lookup withOperand operations arithmetic comparisons jump loads storesOfImm storesOfSrc load storeOfImm storeOfSrc byClass meaning decode writes bits bytes isNoInstruction names10 badProgram badRecord low sum difference digits parity upTo fromBit among highestProduct productMask known product power quotient highestRest rest shiftedBy joined highestShifted leftMask signedRight shiftedUnknown single shifted formula calculated cleared met leadingZeros trailingZeros narrowed stillUnknown learnt sharpened just exact everything loaded joinedRange joinedNumber straight crossed sumRange differenceRange productRange quotientRange sameQuotient restRange longest leftRange signedRightRange ranged block modulo second computedRange computed fits settled bounds orderedIn ordered exchanged above common equalBy equal empty without apartFrom unequal resharpened disjointBy disjointOf disjoint overlappingOf overlapping turned firsts turnedBack signedOrdered signedAbove taken notTaken valueOf operandOf startFacts sameRegion joinedGone joinedValue joinedValues joinedFacts meeting isNever isMixed reading readingBoth put role calculate effects.sum effects.difference effects.arithmetic limit effects.load storeAt store fork exit effect instruction offOf goesBack goesOut mayBeLast goesOn failing noTarget aimed reaching connected reasonNumber pair having judgements.withOperand along apply nobody arrive send andThen distribute visit conclude pass orElse formed followed onPaths onForm judged
 answer ns R = pair (judged (program ns) R .finding)
 
 K1-with-72 : answer K1 72 ≡ (0, 0)
@@ -170,3 +171,40 @@ last-jumps-out = refl
 two-faults-found : answer two-faults 0 ≡ (5, 1)
 unfolding answer two-faults
 two-faults-found = refl
+
+-- ---- dead code
+
+-- nothing jumps to what stands after EXIT
+after-exit : answer (0xb700000000000000 ∷ 0x9500000000000000 ∷ 0x9500000000000000 ∷ []) 0 ≡ (12, 2)
+unfolding answer
+after-exit = refl
+
+-- nor to what JA jumps over
+after-ja : answer (0xb700000000000000 ∷ 0x0500010000000000 ∷ 0xb700000001000000 ∷ 0x9500000000000000 ∷ []) 0 ≡ (12, 2)
+unfolding answer
+after-ja = refl
+
+-- what only dead code jumps to is dead as well; the lowest index is named
+dead-jumps-on : answer (0xb700000000000000 ∷ 0x0500010000000000 ∷ 0x0500010000000000 ∷ 0x9500000000000000 ∷ 0x9500000000000000 ∷ []) 0 ≡ (12, 2)
+unfolding answer
+dead-jumps-on = refl
+
+-- a jump that is never taken is a path all the same: the values don't count
+never-taken : answer (0xb700000000000000 ∷ 0x5500010000000000 ∷ 0x9500000000000000 ∷ 0x9500000000000000 ∷ []) 0 ≡ (0, 0)
+unfolding answer
+never-taken = refl
+
+-- and a JA to the next instruction leads there
+ja-to-the-next : answer (0xb700000000000000 ∷ 0x0500000000000000 ∷ 0x9500000000000000 ∷ []) 0 ≡ (0, 0)
+unfolding answer
+ja-to-the-next = refl
+
+-- the tests at each index come first, dead code or not
+dead-and-no-instruction : answer (0xb700000000000000 ∷ 0x9500000000000000 ∷ 0x8f00000000000000 ∷ 0x9500000000000000 ∷ []) 0 ≡ (3, 2)
+unfolding answer
+dead-and-no-instruction = refl
+
+-- and the values after it: r0 is unset at index 0
+dead-and-unset : answer (0x9500000000000000 ∷ 0x9500000000000000 ∷ []) 0 ≡ (12, 1)
+unfolding answer
+dead-and-unset = refl

@@ -17,14 +17,15 @@ use Rattle.analysis.specs.declared.Effect.the-variants.{Refuse, Put, Kee
 use Rattle.analysis.specs.Values.{Facts, startFacts, meeting}
 use Rattle.analysis.specs.Effects.{effect}
 use Rattle.analysis.specs.Form.{instruction, HasForm}
-use Rattle.analysis.specs.Judged.{Flow, flows, along, apply, Waiting, nobody, arrive, Progress, halted, onward, send, andThen, distribute, visit, Walk, conclude, pass, followed, onForm, judged}
+use Rattle.analysis.specs.Judged.{Flow, flows, along, apply, Waiting, nobody, arrive, Progress, halted, onward, send, andThen, distribute, visit, Walk, conclude, pass, followed, onPaths, onForm, judged}
 use Rattle.analysis.specs.Safe.{Bytes}
 use Rattle.analysis.proofs.LayoutFree.{Config, Course, stuck, ends, goes, free, Comes, at-once, later, startConfig}
 use Rattle.analysis.proofs.Meaning.{Describes, Awaits}
 use Rattle.analysis.proofs.Sound.{Follows, effect-follows}
 use Rattle.analysis.proofs.Annotated.{instruction-words}
 use Rattle.analysis.proofs.Refusing.{Lawful, effect-lawful, some-instruction}
-use Rattle.analysis.proofs.FormLaws.{has-form-passes}
+use Rattle.analysis.proofs.FormLaws.{orderly-passes}
+use Rattle.analysis.proofs.Paths.{connected-iff}
 use Rattle.analysis.proofs.ExactEffects.{facts, Matches, isLoad, effect-matches}
 use Rattle.analysis.proofs.Stable.{Ends}
 use Rattle.analysis.proofs.Theorem.{start-described, accepted-passed, followed-ends, length-short}
@@ -164,7 +165,7 @@ module _ (program : List ℕ) (R : ℕ) (form : HasForm program R) (short : leng
         (effect-follows (facts c) c described rec record-bytes (instruction program (c .index)) (instruction-words program (c .index))))
 
     lawful : Lawful (length program / 8) (c .index) (effect R (c .index) (facts c) (instruction program (c .index)))
-    lawful = effect-lawful (length program / 8) (c .index) R (facts c) (instruction program (c .index)) inside (form .fine (c .index) inside)
+    lawful = effect-lawful (length program / 8) (c .index) R (facts c) (instruction program (c .index)) inside (form .orderly .fine (c .index) inside)
 
   comes-inside : {c : Config} {v m : ℕ} {left : ℕ → List ℕ} → Comes program rec c v m left → c .index < length program / 8
   comes-inside (at-once l e) = l
@@ -202,7 +203,7 @@ module _ (program : List ℕ) (R : ℕ) (form : HasForm program R) (short : leng
 module _ (program : List ℕ) (R : ℕ) (form : HasForm program R) (no-loads : (i : ℕ) → i < length program / 8 → isLoad (instruction program i) ≡ false)
     (rec : List ℕ) (size : length rec ≡ R) (record-bytes : Bytes rec) where
   short : length program / 8 ≤ 2 ^ 64
-  short = omega (arith, length-short (length program) (form .good-length))
+  short = omega (arith, length-short (length program) (form .orderly .good-length))
 
   comes-followed : (v m : ℕ) (left : ℕ → List ℕ) → Comes program rec startConfig v m left → followed program R .finding ≡ Accepted
   unfolding followed conclude send startConfig startFacts Idle nobody
@@ -213,8 +214,8 @@ module _ (program : List ℕ) (R : ℕ) (form : HasForm program R) (no-loads : (
 
   -- accepted: the run comes to a verdict; and the other way round
   pub accepted-iff-the-run-ends : (judged program R .finding ≡ Accepted) ↔ ((v : ℕ) × (k : ℕ) × (left : ℕ → List ℕ) × Comes program rec startConfig v k left)
-  unfolding judged onForm
+  unfolding judged onForm onPaths
   accepted-iff-the-run-ends = (
     λ e. let w = followed-ends program rec record-bytes short (rw size (accepted-passed program R e .good-values)) in (w .verdict, w .steps, w .left, w .comes),
-    λ r. rw (form .good-length, form .good-record, has-form-passes program R form) (comes-followed (r .0) (r .1) (r .2) (r .3)),
+    λ r. rw (form .orderly .good-length, form .orderly .good-record, orderly-passes program R (form .orderly), connected-iff program .1 (form .all-reached)) (comes-followed (r .0) (r .1) (r .2) (r .3)),
   )

@@ -17,8 +17,10 @@ use Rattle.analysis.specs.declared.Finding.the-variants.{Accepted, Refus
 use Rattle.analysis.specs.Values.{Facts, startFacts}
 use Rattle.analysis.specs.Effects.{effect}
 use Rattle.analysis.specs.Form.{instruction}
-use Rattle.analysis.specs.Judged.{Flow, refuses, flows, apply, Waiting, nobody, arrive, Progress, halted, onward, send, andThen, distribute, visit, Walk, conclude, pass, formed, followed, onForm, judged}
+use Rattle.analysis.specs.Judged.{Flow, refuses, flows, apply, Waiting, nobody, arrive, Progress, halted, onward, send, andThen, distribute, visit, Walk, conclude, pass, formed, followed, onPaths, onForm, judged}
+use Rattle.analysis.specs.Paths.{connected}
 use Rattle.analysis.proofs.FormLaws.{form-refusal}
+use Rattle.analysis.proofs.Paths.{unconnected-dead}
 
 abbrev done : Progress → ℕ
 done (halted reason p work) = work
@@ -58,23 +60,28 @@ pass-work program R (suc k) i p work = go (visit program R i p work (p i)) (visi
     go (halted reason q m) h more = omega arith
     go (onward q m) h more = omega (arith, h, more q m)
 
-followed-work : (program : List ℕ) (R : ℕ) → followed program R .work ≤ 24 * (length program / 8) + 11
+followed-work : (program : List ℕ) (R : ℕ) → followed program R .work ≤ 25 * (length program / 8) + 11
 unfolding followed conclude
 followed-work program R =
-    go (send (length program / 8) 0 (some startFacts) nobody (length program / 8)) (send-work (length program / 8) 0 (some startFacts) nobody (length program / 8))
+    go (send (length program / 8) 0 (some startFacts) nobody (2 * (length program / 8))) (send-work (length program / 8) 0 (some startFacts) nobody (2 * (length program / 8)))
   where
-    go : (r : Progress) → done r ≤ length program / 8 + 11 → conclude r 0 (pass program R (length program / 8) 0) .work ≤ 24 * (length program / 8) + 11
+    go : (r : Progress) → done r ≤ 2 * (length program / 8) + 11 → conclude r 0 (pass program R (length program / 8) 0) .work ≤ 25 * (length program / 8) + 11
     go (halted reason q m) h = omega arith
     go (onward q m) h = omega (arith, h, pass-work program R (length program / 8) 0 q m)
 
-pub work-linear : (program : List ℕ) (R : ℕ) → judged program R .work ≤ 24 * (length program / 8) + 11
+paths-work : (program : List ℕ) (R : ℕ) (g : Finding) → connected program ≡ g → onPaths program R g .work ≤ 25 * (length program / 8) + 11
+unfolding onPaths
+paths-work program R Accepted e = followed-work program R
+paths-work program R (Refused reason place) e = omega (arith, unconnected-dead program reason place e .1 .inside)
+
+pub work-linear : (program : List ℕ) (R : ℕ) → judged program R .work ≤ 25 * (length program / 8) + 11
 unfolding judged onForm
 work-linear program R = go (badProgram (length program)) (badRecord R) (formed program (length program / 8) 0) refl
   where
     go : (a b : Bool) (f : Finding) → formed program (length program / 8) 0 ≡ f
         → cond a (record { finding = Refused BadLength 0; work = 0 }) (cond b (record { finding = Refused LongRecord 0; work = 0 }) (onForm program R f)) .work
-        ≤ 24 * (length program / 8) + 11
+        ≤ 25 * (length program / 8) + 11
     go true b f e = omega arith
     go false true f e = omega arith
-    go false false Accepted e = followed-work program R
+    go false false Accepted e = paths-work program R (connected program) refl
     go false false (Refused reason place) e = omega (arith, form-refusal program reason place e .inside .1)

@@ -50,6 +50,10 @@ mayBeLast (Load z d s off) = false
 mayBeLast (Store z d off s) = false
 mayBeLast NoInstruction = false
 
+-- and any other instruction goes on to the next one
+unfoldable pub goesOn : Instruction → Bool
+goesOn ins = not (mayBeLast ins)
+
 -- ---- the tests at an index of n, the lower reason first
 unfoldable pub failing : ℕ → ℕ → Instruction → Option Reason
 failing n i ins =
@@ -67,7 +71,19 @@ pub record Fine (n i : ℕ) (ins : Instruction) : Type 0 where
   pub stays-in : goesOut n i (offOf ins) ≡ false
   pub ends-well : i + 1 ≡ n → mayBeLast ins ≡ true
 
-pub record HasForm (program : List ℕ) (R : ℕ) : Type 0 where
+-- the tests with the reasons 1 to 6 are passed
+pub record Orderly (program : List ℕ) (R : ℕ) : Type 0 where
   pub good-length : badProgram (length program) ≡ false
   pub good-record : badRecord R ≡ false
   pub fine : (i : ℕ) → i < length program / 8 → Fine (length program / 8) i (instruction program i)
+
+-- a path of the jump graph leads from index 0 to this one, whatever the values are
+pub data Reached (program : List ℕ) : ℕ → Type 0 where
+  at-the-start : Reached program 0
+  by-going-on : (i : ℕ) → Reached program i → goesOn (instruction program i) ≡ true → Reached program (i + 1)
+  by-a-jump : (i off : ℕ) → Reached program i → offOf (instruction program i) ≡ some off → Reached program (i + 1 + off)
+
+-- they are passed, and there is no dead code
+pub record HasForm (program : List ℕ) (R : ℕ) : Type 0 where
+  pub orderly : Orderly program R
+  pub all-reached : (i : ℕ) → i < length program / 8 → Reached program i

@@ -1,4 +1,4 @@
--- The analysis: the tests on form, then one pass that follows the values. Jumps go forward, so each index is looked at once, after all
+-- The analysis: the tests on form, dead code among them, then one pass that follows the values. Jumps go forward, so each index is looked at once, after all
 -- that comes there. The answer is a reason and a place, and how much was done. Assumes nothing.
 use mathlib.Core.Bool.{Bool, true, false, cond}
 use mathlib.Core.List.{List}
@@ -13,7 +13,7 @@ use Rattle.number.specs.declared.Number.{Number}
 use Rattle.number.specs.declared.Refined.{Refined}
 use Rattle.number.specs.declared.Refined.the-variants.{Excluded, Possible}
 use Rattle.analysis.specs.declared.Reason.{Reason}
-use Rattle.analysis.specs.declared.Reason.the-variants.{BadLength, LongRecord, NoCode, WritesR10, JumpsBack, JumpsOut, ReadsUnset, Outside, LeaksAddress}
+use Rattle.analysis.specs.declared.Reason.the-variants.{BadLength, LongRecord, NoCode, WritesR10, JumpsBack, JumpsOut, ReadsUnset, Outside, LeaksAddress, DeadCode}
 use Rattle.analysis.specs.declared.Finding.{Finding}
 use Rattle.analysis.specs.declared.Finding.the-variants.{Accepted, Refused}
 use Rattle.analysis.specs.declared.Judged.{Judged}
@@ -24,6 +24,7 @@ use Rattle.analysis.specs.declared.Effect.the-variants.{Refuse, Put, Kee
 use Rattle.analysis.specs.Values.{Facts, startFacts, meeting}
 use Rattle.analysis.specs.Effects.{effect}
 use Rattle.analysis.specs.Form.{instruction, failing}
+use Rattle.analysis.specs.Paths.{connected}
 
 -- ---- a reason's number
 
@@ -37,6 +38,20 @@ reasonNumber JumpsOut = 6
 reasonNumber ReadsUnset = 7
 reasonNumber Outside = 8
 reasonNumber LeaksAddress = 9
+reasonNumber DeadCode = 12
+
+-- a refusal is for the program's values, or for its form
+unfoldable pub onValues : Reason → Bool
+onValues BadLength = false
+onValues LongRecord = false
+onValues NoCode = false
+onValues WritesR10 = false
+onValues JumpsBack = false
+onValues JumpsOut = false
+onValues ReadsUnset = true
+onValues Outside = true
+onValues LeaksAddress = true
+onValues DeadCode = false
 
 -- the pair of numbers: 0 and 0 where the program is accepted
 unfoldable pub pair : Finding → ℕ × ℕ
@@ -100,7 +115,7 @@ unfoldable pub distribute : ℕ → ℕ → Waiting → ℕ → Flow → Progres
 distribute n i p work (refuses reason) = halted reason p work
 distribute n i p work (flows next there target) = andThen (send n (i + 1) next p work) (send n target there)
 
--- an instruction that no path reaches is not looked at
+-- an instruction to which every way is excluded is not looked at
 unfoldable pub visit : List ℕ → ℕ → ℕ → Waiting → ℕ → Option Facts → Progress
 visit program R i p work none = onward p work
 visit program R i p work (some a) = distribute (length program / 8) i p (work + 1) (apply a (effect R i a (instruction program i)))
@@ -131,13 +146,17 @@ unfoldable pub formed : List ℕ → ℕ → ℕ → Finding
 formed program zero i = Accepted
 formed program (suc k) i = orElse i (failing (length program / 8) i (instruction program i)) (formed program k (i + 1))
 
--- the start waits at index 0. The tests on form have looked at each instruction
+-- the start waits at index 0. The tests on each instruction, and the one for dead code, have looked at each
 unfoldable pub followed : List ℕ → ℕ → Walk
 followed program R =
-    conclude (send (length program / 8) 0 (some startFacts) nobody (length program / 8)) 0 (pass program R (length program / 8) 0)
+    conclude (send (length program / 8) 0 (some startFacts) nobody (2 * (length program / 8))) 0 (pass program R (length program / 8) 0)
+
+unfoldable pub onPaths : List ℕ → ℕ → Finding → Judged
+onPaths program R Accepted = record { finding = followed program R .finding; work = followed program R .work }
+onPaths program R (Refused reason place) = record { finding = Refused reason place; work = length program / 8 + (place + 1) }
 
 unfoldable pub onForm : List ℕ → ℕ → Finding → Judged
-onForm program R Accepted = record { finding = followed program R .finding; work = followed program R .work }
+onForm program R Accepted = onPaths program R (connected program)
 onForm program R (Refused reason place) = record { finding = Refused reason place; work = place + 1 }
 
 unfoldable pub judged : List ℕ → ℕ → Judged

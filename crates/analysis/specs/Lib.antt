@@ -1,5 +1,6 @@
 pub mod Effects
 pub mod Form
 pub mod Judged
+pub mod Paths
 pub mod Safe
 pub mod Values

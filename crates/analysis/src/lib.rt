@@ -4,7 +4,7 @@ use machine::instruction::Operand;
 use number::Number;
 use number::Refined;
 
-// Why a program is refused, in the order of docs/VERIFIER.md.
+// Why a program is refused, in the order of the numbers in docs/VERIFIER.md.
 pub enum Reason {
     BadLength,
     LongRecord,
@@ -15,6 +15,7 @@ pub enum Reason {
     ReadsUnset,
     Outside,
     LeaksAddress,
+    DeadCode,
 }
 
 pub enum Finding {

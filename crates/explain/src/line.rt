@@ -1,7 +1,9 @@
 // An index of a program, with what is known there: the listing's line, and notes under it.
 // Assumes nothing: of scratch memory in which nothing waits, nothing is told.
+ghost use mathlib.Core.Path.{_≡_};
 ghost use Prim.Native.Nat.{_≤_};
 ghost use lib.ListN.{length};
+ghost use Rattle.analysis.specs.Judged.{onValues};
 ghost use Rattle.listing.specs.Announced.{Announced};
 use crate::effect::write_deed;
 use crate::joins::is_joined;
@@ -27,7 +29,9 @@ enum Standing {
 }
 
 // The values are followed after the tests on form.
-fn is_of_values(reason: Reason) -> bool {
+fn is_of_values(reason: Reason) -> bool
+    ensures { λ r. ⌜ r ≡ onValues reason ⌝ }
+{
     match reason {
         Reason::BadLength => false,
         Reason::LongRecord => false,
@@ -38,6 +42,7 @@ fn is_of_values(reason: Reason) -> bool {
         Reason::ReadsUnset => true,
         Reason::Outside => true,
         Reason::LeaksAddress => true,
+        Reason::DeadCode => false,
     }
 }
 

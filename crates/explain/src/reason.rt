@@ -27,5 +27,6 @@ pub fn sentence(reason: Reason, out: &mut [u8], at: usize) -> usize
             b"a load or store might lie outside the record and the stack",
         ),
         Reason::LeaksAddress => put_text(out, at, b"an address is used where only a number may be"),
+        Reason::DeadCode => put_text(out, at, b"no path leads to this instruction"),
     }
 }

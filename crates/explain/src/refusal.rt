@@ -98,6 +98,31 @@ fn write_way_out(out: &mut [u8], at: usize, instruction: Instruction, n: usize, 
     }
 }
 
+fn write_no_way(out: &mut [u8], at: usize, before: Instruction) -> usize
+    requires { ⌜ at ≤ length (now out) ⌝ }
+    ensures { λ r. ⌜ (at ≤ r) × (r ≤ length (now (out .entry))) ⌝ }
+{
+    match before {
+        Instruction::Exit => write_note(out, at, b"no jump comes here, and the exit"),
+        _ => write_note(out, at, b"no jump comes here, and the goto"),
+    }
+}
+
+// Only exit and goto don't go on, and index 0 is never dead.
+fn write_dead(out: &mut [u8], at: usize, program: &[u8], i: usize) -> usize
+    requires { ⌜ at ≤ length (now out) ⌝ }
+    ensures { λ r. ⌜ (at ≤ r) × (r ≤ length (now (out .entry))) ⌝ }
+{
+    if i == 0 {
+        return at;
+    }
+    let a = write_no_way(out, at, instruction_at(program, i - 1));
+    let b = write_text(out, a, b" at index ");
+    let c = write_decimal(out, b, (i - 1) as u64);
+    let d = write_text(out, c, b" does not go on to it");
+    write_help(out, d, b"remove it, or jump to it")
+}
+
 fn write_detail(
     out: &mut [u8],
     at: usize,
@@ -122,6 +147,7 @@ fn write_detail(
         Reason::ReadsUnset => write_unset_read(out, at, instruction, scratch, n, i),
         Reason::Outside => write_access(out, at, instruction, record_len, scratch, n, i),
         Reason::LeaksAddress => write_leak(out, at, instruction, scratch, n, i),
+        Reason::DeadCode => write_dead(out, at, program, i),
     }
 }
 

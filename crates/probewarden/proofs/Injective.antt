@@ -11,7 +11,7 @@ use Rattle.machine.specs.declared.outcome.Cause.the-variants.{BadCode, OffEnd, 
 use Rattle.machine.specs.declared.outcome.Outcome.{Outcome}
 use Rattle.machine.specs.declared.outcome.Outcome.the-variants.{Verdict, Fault, Budget, Refused}
 use Rattle.analysis.specs.declared.Reason.{Reason}
-use Rattle.analysis.specs.declared.Reason.the-variants.{BadLength, LongRecord, NoCode, WritesR10, JumpsBack, JumpsOut, ReadsUnset, Outside, LeaksAddress}
+use Rattle.analysis.specs.declared.Reason.the-variants.{BadLength, LongRecord, NoCode, WritesR10, JumpsBack, JumpsOut, ReadsUnset, Outside, LeaksAddress, DeadCode}
 use Rattle.analysis.specs.declared.Finding.{Finding}
 use Rattle.analysis.specs.declared.Finding.the-variants as finding
 use Rattle.analysis.specs.declared.Judged.{Judged}
@@ -32,7 +32,8 @@ reasonNumbered n =
     (cond (eqb n 6) JumpsOut
     (cond (eqb n 7) ReadsUnset
     (cond (eqb n 8) Outside
-    LeaksAddress)))))))
+    (cond (eqb n 9) LeaksAddress
+    DeadCode))))))))
 
 a-reason-by-its-number : (reason : Reason) → reasonNumbered (reasonNumber reason) ≡ reason
 unfolding reasonNumbered reasonNumber
@@ -45,6 +46,7 @@ a-reason-by-its-number JumpsOut = refl
 a-reason-by-its-number ReadsUnset = refl
 a-reason-by-its-number Outside = refl
 a-reason-by-its-number LeaksAddress = refl
+a-reason-by-its-number DeadCode = refl
 
 faultNumbered : ℕ → Cause
 faultNumbered n = cond (eqb n 1) BadCode (cond (eqb n 2) OffEnd (cond (eqb n 3) Unset (cond (eqb n 4) WriteR10 BadAccess)))

@@ -17,7 +17,8 @@ reasonName reason =
     (cond (eqb reason 7) (chars "reads an unset register")
     (cond (eqb reason 8) (chars "access may be outside")
     (cond (eqb reason 9) (chars "may report an address")
-    (chars "no reason")))))))))
+    (cond (eqb reason 12) (chars "dead code")
+    (chars "no reason"))))))))))
 
 unfoldable pub faultName : ℕ → List ℕ
 faultName fault =

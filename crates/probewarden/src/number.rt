@@ -9,7 +9,7 @@ use analysis::Reason;
 use machine::outcome::Cause;
 use text::buffer::put_text;
 
-// The place in the order of docs/VERIFIER.md.
+// The number in docs/VERIFIER.md.
 pub fn reason_number(reason: Reason) -> u64
     ensures { λ r. ⌜ r ≡ reasonNumber reason ⌝ }
 {
@@ -23,6 +23,7 @@ pub fn reason_number(reason: Reason) -> u64
         Reason::ReadsUnset => 7,
         Reason::Outside => 8,
         Reason::LeaksAddress => 9,
+        Reason::DeadCode => 12,
     }
 }
 
@@ -52,6 +53,7 @@ pub fn put_reason(out: &mut [u8], at: usize, reason: u64) -> usize
         7 => put_text(out, at, b"reads an unset register"),
         8 => put_text(out, at, b"access may be outside"),
         9 => put_text(out, at, b"may report an address"),
+        12 => put_text(out, at, b"dead code"),
         _ => put_text(out, at, b"no reason"),
     }
 }

@@ -14,15 +14,12 @@ use Rattle.analysis.specs.declared.Reason.the-variants.{BadLength, LongRecord}
 use Rattle.analysis.specs.declared.Finding.{Finding}
 use Rattle.analysis.specs.declared.Finding.the-variants.{Accepted, Refused}
 use Rattle.analysis.specs.declared.Judged.{Judged}
-use Rattle.analysis.specs.Judged.{formed, onForm, judged}
+use Rattle.analysis.specs.Judged.{formed, onPaths, onForm, judged}
+use Rattle.analysis.specs.Paths.{connected}
 use Rattle.verifier.specs.declared.Answer.{Answer}
 use Rattle.verifier.specs.declared.Answer.the-variants.{Judgement, ScratchTooSmall}
 use Rattle.verifier.specs.Scratch.{words, Followed}
-use Rattle.verifier.specs.Answered.{isAccepted, passesForm, answered, Annotates, Untouched}
-
--- what the verifier ensures
-abbrev pub Answers : List ℕ → ℕ → List ℕ → List ℕ → Answer → Type 0
-Answers program R m m′ r = (r ≡ answered program R (length m)) × (Annotates program R (length m) m′ × Untouched program R m m′)
+use Rattle.verifier.specs.Answered.{isAccepted, passesForm, answered, Answers}
 
 true-is-not-false : (b : Bool) → b ≡ true → b ≡ false → ⊥
 true-is-not-false b p q = let z : _≡_ {A = Bool} true false = sym p ∙ q in let y : _≡_ {A = ℕ} 0 1 = cc in omega arith
@@ -55,37 +52,41 @@ unfolding passesForm judged onForm badRecord isAccepted
 a-test-that-fails program R m f reason place good short tests is =
     where-form-fails program R m _ (rw (good, le-ltb 1024 R short, sym tests, is)) (rw (good, le-ltb 1024 R short, sym tests, is))
 
-passes : (program : List ℕ) (R : ℕ) (f : Finding) → badProgram (length program) ≡ false → R ≤ 1024
-    → f ≡ formed program (length program / 8) 0 → f ≡ Accepted → passesForm program R ≡ true
-unfolding passesForm badRecord isAccepted
-passes program R f good short tests is = rw (good, le-ltb 1024 R short, sym tests, is)
+-- the tests at each index have been passed
+module _ (program : List ℕ) (R n : ℕ) (m : List ℕ) (g : Finding) (good : badProgram (length program) ≡ false) (short : R ≤ 1024)
+    (size : n ≡ length program / 8) (tests : formed program (length program / 8) 0 ≡ Accepted) (paths : g ≡ connected program) where
+  pub dead-code : (reason : Reason) (place : ℕ) → g ≡ Refused reason place
+      → Answers program R m m (Judgement (record { finding = Refused reason place; work = n + (place + 1) }))
+  unfolding passesForm judged onForm onPaths badRecord isAccepted
+  dead-code reason place is =
+      where-form-fails program R m _ (rw (good, le-ltb 1024 R short, tests, sym paths, is)) (rw (good, le-ltb 1024 R short, tests, sym paths, is, size))
 
-pub too-little-memory : (program : List ℕ) (R n : ℕ) (m : List ℕ) (f : Finding) → badProgram (length program) ≡ false → R ≤ 1024
-    → f ≡ formed program (length program / 8) 0 → f ≡ Accepted → n ≡ length program / 8 → length m < 56 * n
-    → Answers program R m m (ScratchTooSmall (56 * n))
-unfolding answered words
-too-little-memory program R n m f good short tests is size less = (
-  rw (passes program R f good short tests is, sym size, lt-ltb (length m) (56 * n) less),
-  (
-    record { holds = λ p q j. absurd (true-is-not-false _ (rw (sym size) (lt-ltb (length m) (56 * n) less)) q) },
-    record { form = λ p. refl; small = λ p. refl },
-  ),
-)
+  passes : g ≡ Accepted → passesForm program R ≡ true
+  unfolding passesForm badRecord isAccepted
+  passes is = rw (good, le-ltb 1024 R short, tests, sym paths, is)
 
-pub the-values-were-followed : (program : List ℕ) (R n : ℕ) (m m′ : List ℕ) (f : Finding) (r : Judged) → badProgram (length program) ≡ false → R ≤ 1024
-    → f ≡ formed program (length program / 8) 0 → f ≡ Accepted → n ≡ length program / 8 → 56 * n ≤ length m → Followed program R n r m m′
-    → Answers program R m m′ (Judgement r)
-unfolding answered words judged onForm badRecord
-the-values-were-followed program R n m m′ f r good short tests is size enough h = (
-  rw (passes program R f good short tests is, sym size, le-ltb (length m) (56 * n) enough, good, le-ltb 1024 R short, size, sym tests, is) (ap Judgement (h .found)),
-  (
-    record { holds = λ p q j. rw (sym size) (ap (λ w. w j) (h .waits)) },
-    record {
-      form = λ p. absurd (true-is-not-false _ (passes program R f good short tests is) p);
-      small = λ p. absurd (true-is-not-false _ p (rw (sym size) (le-ltb (length m) (56 * n) enough)));
-    },
-  ),
-)
+  pub too-little-memory : g ≡ Accepted → length m < 56 * n → Answers program R m m (ScratchTooSmall (56 * n))
+  unfolding answered words
+  too-little-memory is less = (
+    rw (passes is, sym size, lt-ltb (length m) (56 * n) less),
+    (
+      record { holds = λ p q j. absurd (true-is-not-false _ (rw (sym size) (lt-ltb (length m) (56 * n) less)) q) },
+      record { form = λ p. refl; small = λ p. refl },
+    ),
+  )
+
+  pub the-values-were-followed : (m′ : List ℕ) (r : Judged) → g ≡ Accepted → 56 * n ≤ length m → Followed program R n r m m′ → Answers program R m m′ (Judgement r)
+  unfolding answered words judged onForm onPaths badRecord
+  the-values-were-followed m′ r is enough h = (
+    rw (passes is, sym size, le-ltb (length m) (56 * n) enough, good, le-ltb 1024 R short, size, tests, sym paths, is) (ap Judgement (h .found)),
+    (
+      record { holds = λ p q j. rw (sym size) (ap (λ w. w j) (h .waits)) },
+      record {
+        form = λ p. absurd (true-is-not-false _ (passes is) p);
+        small = λ p. absurd (true-is-not-false _ p (rw (sym size) (le-ltb (length m) (56 * n) enough)));
+      },
+    ),
+  )
 
 -- ---- the length of a program of good form
 

@@ -7,5 +7,6 @@ pub mod Outcomes
 pub mod Promise
 pub mod Singles
 pub mod Steps
+pub mod Targets
 pub mod Tests
 pub mod Words

@@ -12,8 +12,10 @@ use Rattle.machine.specs.Machine.{badProgram, badRecord}
 use Rattle.analysis.specs.declared.Finding.{Finding}
 use Rattle.analysis.specs.declared.Finding.the-variants.{Accepted, Refused}
 use Rattle.analysis.specs.Form.{HasForm}
+use Rattle.analysis.specs.Paths.{connected}
 use Rattle.analysis.specs.Judged.{formed, judged}
-use Rattle.analysis.proofs.FormLaws.{passes-has-form, has-form-passes}
+use Rattle.analysis.proofs.FormLaws.{orderly-passes}
+use Rattle.analysis.proofs.Paths.{connected-iff, passes-has-form}
 use Rattle.verifier.specs.declared.Answer.{Answer}
 use Rattle.verifier.specs.declared.Answer.the-variants.{Judgement, ScratchTooSmall}
 use Rattle.verifier.specs.Scratch.{words}
@@ -28,13 +30,15 @@ module _ (program : List ℕ) (R : ℕ) where
   passes-form : passesForm program R ≡ true → HasForm program R
   unfolding passesForm
   passes-form e =
-      let (bc, f) = and-eq-true-iff (not (badProgram (length program)) && not (badRecord R)) (isAccepted (formed program (length program / 8) 0)) .0 e in
+      let (bcf, g) = and-eq-true-iff (not (badProgram (length program)) && not (badRecord R) && isAccepted (formed program (length program / 8) 0)) (isAccepted (connected program)) .0 e in
+      let (bc, f) = and-eq-true-iff (not (badProgram (length program)) && not (badRecord R)) (isAccepted (formed program (length program / 8) 0)) .0 bcf in
       let (b, c) = and-eq-true-iff (not (badProgram (length program))) (not (badRecord R)) .0 bc in
-      passes-has-form program R (not-true _ b) (not-true _ c) (accepted-is _ f)
+      passes-has-form program R (not-true _ b) (not-true _ c) (accepted-is _ f) (accepted-is _ g)
 
   form-passes : HasForm program R → passesForm program R ≡ true
   unfolding passesForm isAccepted
-  form-passes h = rw (h .good-length, h .good-record, has-form-passes program R h) refl
+  form-passes h =
+      rw (h .orderly .good-length, h .orderly .good-record, orderly-passes program R (h .orderly), connected-iff program .1 (h .all-reached)) refl
 
 wordsIn : Answer → ℕ
 wordsIn (Judgement j) = 0

@@ -334,16 +334,16 @@ concludes-onward (onward p work′) n i m m′ work more h = told (h .made .says
 -- the pass from index i on ends as the whole does
 pub record Passing (program : List ℕ) (R n i : ℕ) (m : List ℕ) (work : ℕ) : Type 0 where
   pub within : i ≤ n
-  pub little : work ≤ n + 11 + 23 * i
+  pub little : work ≤ 2 * n + 11 + 23 * i
   pub left : pass program R (n - i) i (waitingIn n m) work ≡ followed program R
 
 pub the-pass-begins : (program : List ℕ) (R n : ℕ) (m m′ : List ℕ) → 0 < n → n ≡ length program / 8 → Begun n m m′
-    → Passing program R n 0 m′ (n + 11)
+    → Passing program R n 0 m′ (2 * n + 11)
 unfolding followed send conclude
 the-pass-begins program R n m m′ l size h = record {
   within = omega arith;
   little = omega arith;
-  left = rw (sym size, lt-ltb 0 n l, sub-zero n) (ap (λ p. pass program R n 0 p (n + 11)) (h .waits));
+  left = rw (sym size, lt-ltb 0 n l, sub-zero n) (ap (λ p. pass program R n 0 p (2 * n + 11)) (h .waits));
 }
 
 pub the-pass-goes-on : (program : List ℕ) (R n i : ℕ) (m m′ : List ℕ) (work work′ : ℕ) → i < n → Passing program R n i m work

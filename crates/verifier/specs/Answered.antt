@@ -9,6 +9,7 @@ use lib.Dec.{ltb}
 use Rattle.machine.specs.Machine.{badProgram, badRecord}
 use Rattle.analysis.specs.declared.Finding.{Finding}
 use Rattle.analysis.specs.declared.Finding.the-variants.{Accepted, Refused}
+use Rattle.analysis.specs.Paths.{connected}
 use Rattle.analysis.specs.Judged.{formed, followed, judged}
 use Rattle.analysis.specs.Safe.{Safe}
 use Rattle.verifier.specs.declared.Answer.{Answer}
@@ -19,9 +20,10 @@ unfoldable pub isAccepted : Finding → Bool
 isAccepted Accepted = true
 isAccepted (Refused reason place) = false
 
--- the tests on form are passed
+-- the tests on form are passed, that for dead code among them
 unfoldable pub passesForm : List ℕ → ℕ → Bool
-passesForm program R = not (badProgram (length program)) && not (badRecord R) && isAccepted (formed program (length program / 8) 0)
+passesForm program R =
+    not (badProgram (length program)) && not (badRecord R) && isAccepted (formed program (length program / 8) 0) && isAccepted (connected program)
 
 unfoldable pub answered : List ℕ → ℕ → ℕ → Answer
 answered program R size =
@@ -37,6 +39,10 @@ pub record Untouched (program : List ℕ) (R : ℕ) (before after : List ℕ) : 
   pub form : passesForm program R ≡ false → after ≡ before
   pub small : ltb (length before) (words (length program / 8)) ≡ true → after ≡ before
 
+-- all of this: m is scratch memory before, m′ after
+abbrev pub Answers : List ℕ → ℕ → List ℕ → List ℕ → Answer → Type 0
+Answers program R m m′ r = (r ≡ answered program R (length m)) × (Annotates program R (length m) m′ × Untouched program R m m′)
+
 -- ---- what an answer promises
 
 abbrev pub IsYes : Answer → Type 0
@@ -50,4 +56,4 @@ workOf (ScratchTooSmall w) = 0
 -- a yes says that the program is safe; little work was done
 pub record Promises (program : List ℕ) (R : ℕ) (r : Answer) : Type 0 where
   pub yes-is-safe : IsYes r → Safe program R
-  pub work-is-linear : workOf r ≤ 24 * (length program / 8) + 11
+  pub work-is-linear : workOf r ≤ 25 * (length program / 8) + 11

@@ -3,3 +3,4 @@ pub mod Form
 pub mod Inspect
 pub mod Outcome
 pub mod Scratch
+pub mod Targets

@@ -4,6 +4,7 @@ mod effect;
 mod form;
 pub mod inspect;
 mod pass;
+mod paths;
 mod scratch;
 mod send;
 mod value;

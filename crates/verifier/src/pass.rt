@@ -77,7 +77,7 @@ pub fn follow(program: &[u8], n: usize, rlen: u64, m: &mut [u64]) -> Judged
     ensures { λ r. ⌜ Followed (now (program .entry)) rlen n r (now (m .entry)) (now (m .exit)) ⌝ }
 {
     begin(m, n);
-    let mut work = n as u64 + 11;
+    let mut work = 2 * n as u64 + 11;
     let mut i = 0;
     while i < n {
         let step = visit(program, n, rlen, m, i, work);

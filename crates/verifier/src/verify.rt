@@ -1,14 +1,17 @@
 // The verifier's answer on any program, any record length and any scratch memory.
 // Assumes nothing.
 ghost use mathlib.Core.Path.{_≡_};
-ghost use mathlib.Core.Bool.{true, false};
-ghost use Prim.Native.Nat.{_/_};
+ghost use mathlib.Core.Bool.{false};
+ghost use Prim.Native.Nat.{_/_, _≤_};
 ghost use lib.ListN.{length};
 ghost use Rattle.machine.specs.Machine as machine;
-ghost use Rattle.verifier.specs.Answered.{answered, Annotates, Untouched, Promises};
+ghost use Rattle.analysis.specs.declared.Finding.the-variants as finding;
+ghost use Rattle.analysis.specs.Judged.{formed};
+ghost use Rattle.verifier.specs.Answered.{answered, Annotates, Untouched, Answers, Promises};
 use crate::Answer;
 use crate::form::check;
 use crate::pass::follow;
+use crate::paths::connected;
 use analysis::Finding;
 use analysis::Judged;
 use analysis::Reason;
@@ -26,6 +29,28 @@ fn refusal(reason: Reason) -> Answer
         finding: Finding::Refused { reason, place: 0 },
         work: 0,
     })
+}
+
+// The tests at each index have been passed: dead code comes next, then scratch memory, then the values.
+fn annotate_orderly(program: &[u8], n: usize, record_len: u64, scratch: &mut [u64]) -> Answer
+    requires { ⌜ (machine.badProgram (length (now program)) ≡ false) × (record_len ≤ 1024) × (n ≡ length (now program) / 8) × (formed (now program) (length (now program) / 8) 0 ≡ finding.Accepted) ⌝ }
+    ensures { λ r. ⌜ Answers (now (program .entry)) record_len (now (scratch .entry)) (now (scratch .exit)) r ⌝ }
+{
+    let paths = connected(program, n);
+    match paths {
+        Finding::Refused { reason, place } => Answer::Judgement(Judged {
+            finding: Finding::Refused { reason, place },
+            work: n as u64 + (place + 1),
+        }),
+        Finding::Accepted => {
+            if scratch.len() < 56 * n {
+                return Answer::ScratchTooSmall {
+                    words: 56 * n as u64,
+                };
+            }
+            Answer::Judgement(follow(program, n, record_len, scratch))
+        }
+    }
 }
 
 // Scratch memory holds what waits for each index afterwards, where the values were followed; otherwise it is as it was.
@@ -47,14 +72,7 @@ pub fn annotate(program: &[u8], record_len: u64, scratch: &mut [u64]) -> Answer
             finding: Finding::Refused { reason, place },
             work: place + 1,
         }),
-        Finding::Accepted => {
-            if scratch.len() < 56 * n {
-                return Answer::ScratchTooSmall {
-                    words: 56 * n as u64,
-                };
-            }
-            Answer::Judgement(follow(program, n, record_len, scratch))
-        }
+        Finding::Accepted => annotate_orderly(program, n, record_len, scratch),
     }
 }
 

@@ -41,8 +41,12 @@ returns-9 : tie.Need-returns-9
 unfolding sentenceOf
 returns-9 c = rw (c .before .before .before .before .before .enum-told9 .given .1) (c .before .before .put-text9 .ensures)
 
+returns-10 : tie.Need-returns-10
+unfolding sentenceOf
+returns-10 c = rw (c .before .before .before .before .before .enum-told10 .given .1) (c .before .before .put-text10 .ensures)
+
 pub sentence-spec : {M : Type 1} → statement M
 sentence-spec =
     tie.close
     (tie.spec
-    (λ c. search needs) (λ c. search needs) (λ c κs. search needs) (λ c. search needs) (λ c. search needs) (λ c κs. search needs) (λ c. search needs) (λ c. search needs) (λ c κs. search needs) (λ c. search needs) (λ c. search needs) (λ c κs. search needs) (λ c. search needs) (λ c. search needs) (λ c κs. search needs) (λ c. search needs) (λ c. search needs) (λ c κs. search needs) (λ c. search needs) (λ c. search needs) (λ c κs. search needs) (λ c. search needs) (λ c. search needs) (λ c κs. search needs) (λ c. search needs) (λ c. search needs) (λ c κs. search needs) (λ c. search needs) returns (λ c. search needs) returns-2 (λ c. search needs) returns-3 (λ c. search needs) returns-4 (λ c. search needs) returns-5 (λ c. search needs) returns-6 (λ c. search needs) returns-7 (λ c. search needs) returns-8 (λ c. search needs) returns-9)
+    (λ c. search needs) (λ c. search needs) (λ c κs. search needs) (λ c. search needs) (λ c. search needs) (λ c κs. search needs) (λ c. search needs) (λ c. search needs) (λ c κs. search needs) (λ c. search needs) (λ c. search needs) (λ c κs. search needs) (λ c. search needs) (λ c. search needs) (λ c κs. search needs) (λ c. search needs) (λ c. search needs) (λ c κs. search needs) (λ c. search needs) (λ c. search needs) (λ c κs. search needs) (λ c. search needs) (λ c. search needs) (λ c κs. search needs) (λ c. search needs) (λ c. search needs) (λ c κs. search needs) (λ c. search needs) (λ c. search needs) (λ c κs. search needs) (λ c. search needs) returns (λ c. search needs) returns-2 (λ c. search needs) returns-3 (λ c. search needs) returns-4 (λ c. search needs) returns-5 (λ c. search needs) returns-6 (λ c. search needs) returns-7 (λ c. search needs) returns-8 (λ c. search needs) returns-9 (λ c. search needs) returns-10)

@@ -44,12 +44,18 @@ returns-9 c = rw (c .before .before .before .before .before .match .keys9) (c .b
 
 returns-10 : tie.Need-returns-10
 unfolding reasonName
-returns-10 c = rw (ne-eqb _ _ (c .before .before .before .before .before .match .rest .0 .0 .0 .0 .0 .0 .0 .0 .1), ne-eqb _ _ (c .before .before .before .before .before .match .rest .0 .0 .0 .0 .0 .0 .0 .1), ne-eqb _ _ (c .before .before .before .before .before .match .rest .0 .0 .0 .0 .0 .0 .1), ne-eqb _ _ (c .before .before .before .before .before .match .rest .0 .0 .0 .0 .0 .1), ne-eqb _ _ (c .before .before .before .before .before .match .rest .0 .0 .0 .0 .1), ne-eqb _ _ (c .before .before .before .before .before .match .rest .0 .0 .0 .1), ne-eqb _ _ (c .before .before .before .before .before .match .rest .0 .0 .1), ne-eqb _ _ (c .before .before .before .before .before .match .rest .0 .1), ne-eqb _ _ (c .before .before .before .before .before .match .rest .1)) (c .before .before .put-text10 .ensures)
+returns-10 c = rw (c .before .before .before .before .before .match .keys10) (c .before .before .put-text10 .ensures)
+
+returns-11 : tie.Need-returns-11
+unfolding reasonName
+returns-11 c = rw (ne-eqb _ _ (c .before .before .before .before .before .match .rest .0 .0 .0 .0 .0 .0 .0 .0 .0 .1), ne-eqb _ _ (c .before .before .before .before .before .match .rest .0 .0 .0 .0 .0 .0 .0 .0 .1), ne-eqb _ _ (c .before .before .before .before .before .match .rest .0 .0 .0 .0 .0 .0 .0 .1), ne-eqb _ _ (c .before .before .before .before .before .match .rest .0 .0 .0 .0 .0 .0 .1), ne-eqb _ _ (c .before .before .before .before .before .match .rest .0 .0 .0 .0 .0 .1), ne-eqb _ _ (c .before .before .before .before .before .match .rest .0 .0 .0 .0 .1), ne-eqb _ _ (c .before .before .before .before .before .match .rest .0 .0 .0 .1), ne-eqb _ _ (c .before .before .before .before .before .match .rest .0 .0 .1), ne-eqb _ _ (c .before .before .before .before .before .match .rest .0 .1), ne-eqb _ _ (c .before .before .before .before .before .match .rest .1)) (c .before .before .put-text11 .ensures)
 
 pub put-reason-spec : {M : Type 1} → statement M
 put-reason-spec =
     tie.close
     (tie.spec
+    (λ c. search needs)
+    (λ c κs. search needs)
     (λ c. search needs)
     (λ c κs. search needs)
     (λ c. search needs)
@@ -89,4 +95,6 @@ put-reason-spec =
     (λ c. search needs)
     returns-9
     (λ c. search needs)
-    returns-10)
+    returns-10
+    (λ c. search needs)
+    returns-11)

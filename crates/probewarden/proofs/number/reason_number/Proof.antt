@@ -41,10 +41,15 @@ returns-9 : tie.Need-returns-9
 unfolding reasonNumber
 returns-9 c = rw (c .enum-told9 .given .1)
 
+returns-10 : tie.Need-returns-10
+unfolding reasonNumber
+returns-10 c = rw (c .enum-told10 .given .1)
+
 pub reason-number-spec : {M : Type 1} → statement M
 reason-number-spec =
     tie.close
     (tie.spec
+    (λ c. search needs)
     (λ c. search needs)
     (λ c. search needs)
     (λ c. search needs)
@@ -62,4 +67,5 @@ reason-number-spec =
     returns-6
     returns-7
     returns-8
-    returns-9)
+    returns-9
+    returns-10)

@@ -53,6 +53,7 @@ follow-spec =
     μ-loop
     (λ c κs. omega arith)
     (λ c. omega arith)
+    (λ c. omega arith)
     loop-holds
     visit-requires
     (λ c. search needs)
