@@ -18,7 +18,7 @@ use word::Comparison;
 use word::Operation;
 
 // A way on which a range is empty is excluded.
-fn settle(d: Number, s: Number) -> Refined
+pub fn settle(d: Number, s: Number) -> Refined
     ensures { λ r. ⌜ r ≡ defined.settled d s ⌝ }
 {
     let u = d.range;
@@ -243,7 +243,7 @@ fn turn(n: Number) -> Number
     alu64(Operation::Add, n, half)
 }
 
-fn first_of_each(one: Refined, other: Refined) -> Refined
+pub fn first_of_each(one: Refined, other: Refined) -> Refined
     ensures { λ r. ⌜ r ≡ defined.firsts one other ⌝ }
 {
     match one {

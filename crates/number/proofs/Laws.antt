@@ -8,3 +8,5 @@ pub use Rattle.number.proofs.Computing.{computed-sound, computed-exact,
 -- a way out of a comparison keeps all pairs that go it, and on exact numbers says which way is gone
 pub use Rattle.number.proofs.Compare.{refined-sound, refined-narrower}
 pub use Rattle.number.proofs.AgainstKnown.{refined-exact, refined-exact-excluded}
+-- the same of a comparison of low halves
+pub use Rattle.number.proofs.Halves.{refined32-sound, refined32-narrower, refined32-exact, refined32-exact-excluded}

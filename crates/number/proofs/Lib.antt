@@ -5,6 +5,11 @@ pub mod CompareVectors
 pub mod Computing
 pub mod Equality
 pub mod Exclusion
+pub mod HalfBits
+pub mod HalfOrders
+pub mod Halves
+pub mod HalvesAgainstKnown
+pub mod HalvesVectors
 pub mod Known
 pub mod Laws
 pub mod Limits
