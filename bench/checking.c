@@ -35,11 +35,15 @@ static int refused(size_t program_len, size_t record_len, uint64_t record_at, ui
 #define MOV_REG(opcode, type) \
     case opcode: UNUSED(i.off || i.imm); WRITES(i.dst); READS(i.src); r[i.dst] = (type)r[i.src]; set |= 1u << i.dst; break;
 
+#define JUMP_IMM(opcode, type, taken) \
+    case opcode: { UNUSED(i.src); READS(i.dst); \
+        type d = (type)r[i.dst], s = (type)i.imm; if (taken) next += (uint64_t)i.off; break; }
+#define JUMP_REG(opcode, type, taken) \
+    case opcode: { UNUSED(i.imm); READS(i.dst); READS(i.src); \
+        type d = (type)r[i.dst], s = (type)r[i.src]; if (taken) next += (uint64_t)i.off; break; }
 #define JUMP(high, taken) \
-    case 0x05 | high: { UNUSED(i.src); READS(i.dst); \
-        uint64_t d = r[i.dst], s = (uint64_t)i.imm; if (taken) next += (uint64_t)i.off; break; } \
-    case 0x0d | high: { UNUSED(i.imm); READS(i.dst); READS(i.src); \
-        uint64_t d = r[i.dst], s = r[i.src]; if (taken) next += (uint64_t)i.off; break; }
+    JUMP_IMM(0x05 | high, uint64_t, taken) JUMP_REG(0x0d | high, uint64_t, taken) \
+    JUMP_IMM(0x06 | high, uint32_t, taken) JUMP_REG(0x0e | high, uint32_t, taken)
 
 #define LOAD(size, type) \
     case 0x61 | size: { UNUSED(i.imm); WRITES(i.dst); READS(i.src); \

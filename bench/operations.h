@@ -23,7 +23,7 @@
     X(0xa0, d ^ s) \
     X(0xc0, SIGNED(d) >> COUNT(s))
 
-// X(high four bits of the opcode, taken where): class 5. JA and EXIT have forms of their own.
+// X(high four bits of the opcode, taken where): classes 5 and 6. JA and EXIT, of class 5, have forms of their own.
 #define COMPARISONS(X) \
     X(0x10, d == s) \
     X(0x20, d > s) \

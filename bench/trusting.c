@@ -16,9 +16,13 @@
 #define MOV_REG(opcode, type) case opcode: r[i.dst] = (type)r[i.src]; break;
 
 #define GO(off) at += (off) * PW_INSTRUCTION_BYTES
+#define JUMP_IMM(opcode, type, taken) \
+    case opcode: { type d = (type)r[i.dst], s = (type)i.imm; if (taken) GO(i.off); break; }
+#define JUMP_REG(opcode, type, taken) \
+    case opcode: { type d = (type)r[i.dst], s = (type)r[i.src]; if (taken) GO(i.off); break; }
 #define JUMP(high, taken) \
-    case 0x05 | high: { uint64_t d = r[i.dst], s = (uint64_t)i.imm; if (taken) GO(i.off); break; } \
-    case 0x0d | high: { uint64_t d = r[i.dst], s = r[i.src]; if (taken) GO(i.off); break; }
+    JUMP_IMM(0x05 | high, uint64_t, taken) JUMP_REG(0x0d | high, uint64_t, taken) \
+    JUMP_IMM(0x06 | high, uint32_t, taken) JUMP_REG(0x0e | high, uint32_t, taken)
 
 #define LOAD(size, type) \
     case 0x61 | size: { uint64_t a = r[i.src] + (uint64_t)i.off; type v; \

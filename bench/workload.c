@@ -10,6 +10,7 @@ int program_count;
 static uint8_t code[PW_MAX_INSTRUCTIONS * PW_INSTRUCTION_BYTES], record[RECORD_BYTES];
 static int at, length; // the next instruction's index; how many there will be
 static int loading; // 1: loaded; 0: known
+static int jump_class = 5; // 6: jumps compare 32 bits
 static uint64_t seed = 12345;
 
 static uint32_t pick(uint32_t n) {
@@ -49,7 +50,7 @@ static void put_loaded_start(void) {
 // eleven comparisons, with imm or src, a short way forward
 static void put_jump(void) {
     static const uint8_t high[] = {1, 2, 3, 4, 5, 6, 7, 10, 11, 12, 13};
-    int opcode = high[pick(11)] << 4 | 5, off = at < length - 8 ? (int)pick(5) : 0, by_register = (int)pick(2), dst = reg();
+    int opcode = high[pick(11)] << 4 | jump_class, off = at < length - 8 ? (int)pick(5) : 0, by_register = (int)pick(2), dst = reg();
     if (by_register) put(opcode | 8, dst, reg(), off, 0);
     else put(opcode, dst, 0, off, (int)pick(200) - 100);
 }
@@ -120,6 +121,11 @@ static void loaded(void) {
     put_mixed(8, 0);
 }
 
+static void halves(void) {
+    jump_class = 6;
+    loaded();
+}
+
 static void memory(void) {
     put_loaded_start();
     put_mixed(0, 100);
@@ -138,6 +144,11 @@ static void jumps(void) {
 static void branches(void) {
     put_loaded_start();
     put_mixed(1, 0);
+}
+
+static void half_branches(void) {
+    jump_class = 6;
+    branches();
 }
 
 static void products(void) {
@@ -164,6 +175,8 @@ const struct workload workloads[] = {
     {"products", "multiplications, 64 and 32 bits; loaded", INTERPRETER | VERIFIER, PW_MAX_INSTRUCTIONS, products},
     {"jumps", "every 2nd a jump; loaded", INTERPRETER | VERIFIER, PW_MAX_INSTRUCTIONS, jumps},
     {"branches", "nothing but jumps; loaded", VERIFIER, PW_MAX_INSTRUCTIONS, branches},
+    {"halves", "arithmetic, every 8th a 32-bit jump; loaded", INTERPRETER | VERIFIER, PW_MAX_INSTRUCTIONS, halves},
+    {"half_branches", "nothing but 32-bit jumps; loaded", VERIFIER, PW_MAX_INSTRUCTIONS, half_branches},
     {"joins", "tests that skip changes of registers; loaded", INTERPRETER | VERIFIER, PW_MAX_INSTRUCTIONS, joins},
     {"short", "a probe of 20 steps", INTERPRETER, SHORTEST, loaded},
     {"examples", "the probes of examples/", INTERPRETER | VERIFIER, 0, 0},

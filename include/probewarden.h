@@ -10,6 +10,8 @@
  *         if (pw_run_probe(program, size, record, sizeof record, stack, PW_MAX_INSTRUCTIONS, answer) == PW_VERDICT)
  *             use(answer[PW_VALUE]);
  *
+ * Instructions. Programs are eBPF as clang makes it for -mcpu=v1, v2 and v3: arithmetic and comparisons on 64 and 32 bits, loads, stores, jumps
+ * and exit, 108 opcodes in all. There are no calls, no 64-bit immediates, no byte swaps and no atomic operations: they are no instruction here.
  * Memory. No function keeps a pointer, allocates, or calls anything but memcpy and memset. A length of 0 goes with any pointer, null too.
  * Words (uint64_t) must be aligned as the compiler aligns them. Buffers that are lent to one call must not overlap, but for two that are
  * only read.

@@ -44,6 +44,11 @@ straight() { awk -v n="$1" 'BEGIN { printf "verify 0 "; for (i = 0; i < n; i++) 
 zeros() { awk -v n="$1" 'BEGIN { printf "verify 0 "; for (i = 0; i < n; i++) printf "00"; print "" }'; }
 same 'a program that is accepted' '0 0/' "$(echo "verify 2 $reads" | ./probewarden batch | lines)"
 same 'a program that is refused' '8 2/' "$(echo "verify 1 $reads" | ./probewarden batch | lines)"
+# 8 bytes, of which a class 6 jump tests the low half, and all are used; the same of a byte, which is all low half
+whole='7912000000000000260203000f0000000f2100000000000071100100000000009500000000000000b7000000000000009500000000000000'
+byte='7112000000000000260203000a0000000f2100000000000071100100000000009500000000000000b7000000000000009500000000000000'
+same 'a test of the low half' '8 0/8 3/8 3/' "$(for r in 7 8 1024; do echo "verify $r $whole"; done | ./probewarden batch | lines)"
+same 'a test of the low half of a byte' '8 3/0 0/' "$(for r in 11 12; do echo "verify $r $byte"; done | ./probewarden batch | lines)"
 same 'a verify between runs' 'verdict 7 2/0 0/verdict 7 2/' "$(printf '%s\nverify 2 %s\n%s\n' "$asks" "$reads" "$asks" | ./probewarden batch | lines)"
 same 'a small program after a large one' '0 0/8 2/' "$({ straight 4095; echo "verify 1 $reads"; } | ./probewarden batch | lines)"
 same '4,096 instructions' '0 0/' "$(straight 4095 | ./probewarden batch | lines)"

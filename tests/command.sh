@@ -21,17 +21,20 @@ answer() {
     ) 2>&1 </dev/null | sed "s|$made/||g"
 }
 
-# transcript FILE: its blocks are a line that starts with `$ `, and what comes out.
+# transcript FILE: its blocks are a line that starts with `$ `, what comes out, and the status. Remarks and empty lines between blocks are kept.
 transcript() {
     name=$(basename "$1" .txt)
     : >"$made/now"
+    inside=0
     while IFS= read -r line; do
         case $line in
         '$ '*)
             printf '%s\n' "$line" >>"$made/now"
             answer "${line#??}" >>"$made/now"
+            inside=1
             ;;
-        '#'* | '') printf '%s\n' "$line" >>"$made/now" ;;
+        '['*']') inside=0 ;;
+        '#'* | '') [ "$inside" = 1 ] || printf '%s\n' "$line" >>"$made/now" ;;
         esac
     done <"$1"
     if [ "$mode" = write ]; then

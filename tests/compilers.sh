@@ -11,7 +11,7 @@ made=$(mktemp -d)
 trap 'rm -rf "$made"' EXIT
 
 # One way to compile has one column in the table, and one object for each probe: tests/compiled/PROBE.WAY.o
-ways='O2.v1 O2.v2 Os.v1 Os.v2'
+ways='O2.v1 O2.v2 O2.v3 Os.v1 Os.v2 Os.v3'
 
 # compile WAY SOURCE OUT
 compile() { clang "-${1%.*}" "-mcpu=${1#*.}" -target bpf -c "$2" -o "$3"; }

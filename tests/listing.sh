@@ -50,7 +50,7 @@ compare() {
         }
         END {
             for (opcode in seen) opcodes++
-            if (asked == shown && opcodes == 86) good++
+            if (asked == shown && opcodes == 108) good++
             else { bad++; printf "%d lines of LLVM, %d of ours, %d opcodes\n", asked, shown, opcodes > "/dev/stderr" }
             printf "%d lines are left out\n", left > "/dev/stderr"
             print good + 0, bad + 0

@@ -530,7 +530,7 @@ static int is_covered(const struct tally *tallies) {
 }
 
 static void run_kind(const struct options *o, enum kind kind, struct tally *tally) {
-    static const uint64_t usual_counts[KINDS] = {80000, 80000, 80000, 60000, 200000};
+    static const uint64_t usual_counts[KINDS] = {80000, 80000, 80000, 70000, 200000};
     static struct trial t;
     uint64_t count = o->has_count ? o->count : usual_counts[kind];
     t.seed = o->seed;

@@ -67,19 +67,30 @@ static const uint8_t arithmetic_operations[] = {ADD, SUB, MUL, DIV, OR, AND, LSH
 static const uint8_t conditions[] = {JEQ, JGT, JGE, JSET, JNE, JSGT, JSGE, JLT, JLE, JSLT, JSLE};
 static const uint8_t loads[] = {LDX_B, LDX_H, LDX_W, LDX_DW};
 
-/* The 86 opcodes of the machine. */
+/* The same condition in class 6, on the low halves of its operands. */
+static unsigned on_low_halves(unsigned condition) {
+    return condition + 1;
+}
+
+static unsigned some_condition(struct source *s) {
+    unsigned condition = conditions[below(s, COUNT(conditions))];
+    return one_in(s, 2) ? on_low_halves(condition) : condition;
+}
+
+/* The 108 opcodes of the machine. */
 static const uint8_t opcodes[] = {
     0x07, 0x17, 0x27, 0x37, 0x47, 0x57, 0x67, 0x77, 0x97, 0xa7, 0xb7, 0xc7, 0x0f, 0x1f, 0x2f, 0x3f, 0x4f, 0x5f, 0x6f, 0x7f, 0x9f, 0xaf,
     0xbf, 0xcf, 0x87, 0x04, 0x14, 0x24, 0x34, 0x44, 0x54, 0x64, 0x74, 0x94, 0xa4, 0xb4, 0xc4, 0x0c, 0x1c, 0x2c, 0x3c, 0x4c, 0x5c, 0x6c,
     0x7c, 0x9c, 0xac, 0xbc, 0xcc, 0x84, 0x05, 0x95, 0x15, 0x25, 0x35, 0x45, 0x55, 0x65, 0x75, 0xa5, 0xb5, 0xc5, 0xd5, 0x1d, 0x2d, 0x3d,
-    0x4d, 0x5d, 0x6d, 0x7d, 0xad, 0xbd, 0xcd, 0xdd, 0x71, 0x69, 0x61, 0x79, 0x72, 0x6a, 0x62, 0x7a, 0x73, 0x6b, 0x63, 0x7b};
+    0x4d, 0x5d, 0x6d, 0x7d, 0xad, 0xbd, 0xcd, 0xdd, 0x16, 0x26, 0x36, 0x46, 0x56, 0x66, 0x76, 0xa6, 0xb6, 0xc6, 0xd6, 0x1e, 0x2e, 0x3e,
+    0x4e, 0x5e, 0x6e, 0x7e, 0xae, 0xbe, 0xce, 0xde, 0x71, 0x69, 0x61, 0x79, 0x72, 0x6a, 0x62, 0x7a, 0x73, 0x6b, 0x63, 0x7b};
 
-_Static_assert(sizeof opcodes == 86, "the machine has 86 opcodes");
+_Static_assert(sizeof opcodes == 108, "the machine has 108 opcodes");
 
 static int is_load(unsigned opcode) { return (opcode & 7) == 1; }
 static int is_store(unsigned opcode) { return (opcode & 7) == 2 || (opcode & 7) == 3; }
 static int is_arithmetic(unsigned opcode) { return (opcode & 7) == ON_64 || (opcode & 7) == ON_32; }
-static int is_conditional(unsigned opcode) { return (opcode & 7) == 5 && opcode != JA && opcode != EXIT; }
+static int is_conditional(unsigned opcode) { return ((opcode & 7) == 5 && opcode != JA && opcode != EXIT) || (opcode & 7) == 6; }
 static int is_shift(unsigned opcode) {
     return is_arithmetic(opcode) && ((opcode & 0xf0) == LSH || (opcode & 0xf0) == RSH || (opcode & 0xf0) == ARSH);
 }
@@ -197,7 +208,7 @@ static int some_jump(struct source *s, size_t room) {
 /* A way around the instruction that comes next, so that what follows it is reached; one in six is left out, and leaves dead code. */
 static void emit_way_around(struct source *s, struct program *p, unsigned reg) {
     if (!one_in(s, 6))
-        emit(p, conditions[below(s, COUNT(conditions))], reg, 0, 1, some_immediate(s));
+        emit(p, some_condition(s), reg, 0, 1, some_immediate(s));
 }
 
 /* One instruction with this opcode; so many follow it. */
@@ -314,16 +325,21 @@ static void emit_plain_store(struct text *t) {
         emit(t->p, shape | 3, 10, some_number(t), off, 0);
 }
 
-/* Leaves the phrase unless the index is at most `most`. */
-static void emit_test(struct text *t, int32_t most) {
+/* Leaves the phrase unless the index, or with `low` its low half, is at most `most`. */
+static void emit_test(struct text *t, int32_t most, int low) {
     static const uint8_t leave[] = {JGT, JGE, JSGT, JSGE}, stay[] = {JLT, JLE, JSLT, JSLE};
     unsigned which = (unsigned)below(t->s, one_in(t->s, 5) ? 4 : 2);
     if (one_in(t->s, 2)) {
-        emit_leap(t, leave[which], INDEX, 0, most + (which & 1), 0);
+        emit_leap(t, low ? on_low_halves(leave[which]) : leave[which], INDEX, 0, most + (which & 1), 0);
     } else {
-        emit(t->p, stay[which], INDEX, 0, 1, most + !(which & 1));
+        emit(t->p, low ? on_low_halves(stay[which]) : stay[which], INDEX, 0, 1, most + !(which & 1));
         emit_leap(t, JA, 0, 0, 0, 0);
     }
+}
+
+/* The upper half of the index becomes 0. */
+static void emit_cut(struct text *t) {
+    emit(t->p, MOV | ON_32 | BY_REGISTER, INDEX, INDEX, 0, 0);
 }
 
 static int32_t largest_mask(int32_t most) {
@@ -333,10 +349,31 @@ static int32_t largest_mask(int32_t most) {
     return mask;
 }
 
+/* Brings the low half of the index to at most `most`, by a test of it. Of the whole that tells something only where its upper half is 0: it
+ * is cleared before the test, or after it, or left to what the index was made from. */
+static void emit_low_bound(struct text *t, int32_t most) {
+    enum { BEFORE, AFTER, WAYS = 3 };
+    int32_t mask = largest_mask(most);
+    uint64_t cleared = below(t->s, WAYS);
+    if (cleared == BEFORE)
+        emit_cut(t);
+    switch (below(t->s, 5)) {
+    case 0: emit_leap(t, on_low_halves(JSET), INDEX, 0, ~mask, 0); break;
+    case 1: emit_leap(t, on_low_halves(JNE), INDEX, 0, most, 0); break;
+    case 2:
+        emit(t->p, MOV | ON_64, 9, 0, 0, cleared == AFTER ? mask : most);
+        emit_leap(t, on_low_halves(JGT) | BY_REGISTER, INDEX, 9, 0, 0);
+        break;
+    default: emit_test(t, cleared == AFTER ? mask : most, 1); break;
+    }
+    if (cleared == AFTER)
+        emit_cut(t);
+}
+
 /* Brings the index to at most `most`, in one of the ways that a probe would use. */
 static void emit_bound(struct text *t, int32_t most) {
     int32_t mask = largest_mask(most);
-    switch (below(t->s, 9)) {
+    switch (below(t->s, 13)) {
     case 0: emit(t->p, AND | (one_in(t->s, 3) ? ON_32 : ON_64), INDEX, 0, 0, mask); break;
     case 1: emit(t->p, AND | ON_64, INDEX, 0, 0, (int32_t)below(t->s, (uint64_t)most + 1)); break;
     case 2: emit_leap(t, JSET, INDEX, 0, ~mask, 0); break;
@@ -351,9 +388,10 @@ static void emit_bound(struct text *t, int32_t most) {
         break;
     case 6: /* test one more, then take one away, as a length with a header has it */
         emit(t->p, ADD | ON_64, INDEX, 0, 0, -1);
-        emit_test(t, most);
+        emit_test(t, most, 0);
         break;
-    default: emit_test(t, most); break;
+    case 7: case 8: emit_test(t, most, 0); break;
+    default: emit_low_bound(t, most); break;
     }
 }
 
@@ -397,7 +435,7 @@ static void emit_indexed_access(struct text *t) {
 }
 
 static void emit_branch(struct text *t) {
-    unsigned condition = conditions[below(t->s, COUNT(conditions))];
+    unsigned condition = some_condition(t->s);
     size_t skip = below(t->s, 4);
     if (one_in(t->s, 10)) {
         if (skip > 0)
@@ -413,7 +451,7 @@ static void emit_branch(struct text *t) {
 static void emit_leak(struct text *t) {
     unsigned address = one_in(t->s, 2) ? 1 : 10;
     switch (below(t->s, 5)) {
-    case 0: emit_leap(t, conditions[below(t->s, COUNT(conditions))] | BY_REGISTER, some_number(t), address, 0, 0); break;
+    case 0: emit_leap(t, some_condition(t->s) | BY_REGISTER, some_number(t), address, 0, 0); break;
     case 1: emit(t->p, 0x7b, 10, address, -8, 0); break;
     case 2: emit(t->p, MOV | ON_32 | BY_REGISTER, some_number(t), address, 0, 0); break;
     case 3: emit(t->p, SUB | ON_64 | BY_REGISTER, some_number(t), address, 0, 0); break;
@@ -472,14 +510,22 @@ static int32_t lean_immediate(struct source *s, int32_t *recent) {
     }
 }
 
+/* r2 below, and the first byte in the upper half, where a test of the low half doesn't see it. */
+static void emit_two_halves(struct text *t) {
+    emit(t->p, LDX_B, INDEX, 1, 0, 0);
+    emit(t->p, LSH | ON_64, INDEX, 0, 0, 32);
+    emit(t->p, (one_in(t->s, 2) ? OR : ADD) | ON_64 | BY_REGISTER, INDEX, 2, 0, 0);
+}
+
 static void emit_lean_source(struct text *t, int32_t *recent) {
-    switch (below(t->s, 8)) {
+    switch (below(t->s, 9)) {
     case 0: emit(t->p, loads[1 + below(t->s, 3)], INDEX, 1, 0, 0); break;
     case 1: emit(t->p, MOV | (one_in(t->s, 2) ? ON_32 : ON_64), INDEX, 0, 0, lean_immediate(t->s, recent)); break;
     case 2:
         emit(t->p, loads[below(t->s, 4)], 3, 1, 0, 0);
         emit(t->p, MOV | (one_in(t->s, 2) ? ON_32 : ON_64) | BY_REGISTER, INDEX, 3, 0, 0);
         break;
+    case 3: emit_two_halves(t); break;
     default: emit(t->p, LDX_B, INDEX, 1, 0, 0); break;
     }
 }
@@ -494,13 +540,18 @@ static void emit_sign_extension(struct text *t) {
 static void emit_lean_step(struct text *t, int32_t *recent) {
     unsigned width = one_in(t->s, 2) ? ON_32 : ON_64;
     unsigned operation = arithmetic_operations[below(t->s, COUNT(arithmetic_operations))];
-    unsigned condition = conditions[below(t->s, COUNT(conditions))];
-    switch (below(t->s, 10)) {
+    unsigned condition = some_condition(t->s);
+    switch (below(t->s, 13)) {
     case 0: emit_sign_extension(t); break;
     case 1: emit(t->p, operation | width | BY_REGISTER, INDEX, 2, 0, 0); break;
     case 2: emit(t->p, NEG | width, INDEX, 0, 0, 0); break;
     case 3: case 4: emit_leap(t, condition, INDEX, 0, lean_immediate(t->s, recent), 0); break;
-    case 5:
+    case 5: emit_leap(t, condition | BY_REGISTER, one_in(t->s, 4) ? 2 : INDEX, one_in(t->s, 4) ? INDEX : 2, 0, 0); break;
+    case 6: /* a test of the low half, and the upper half cleared after it */
+        emit_leap(t, on_low_halves(conditions[below(t->s, COUNT(conditions))]), INDEX, 0, lean_immediate(t->s, recent), 0);
+        emit_cut(t);
+        break;
+    case 7:
         emit(t->p, condition, INDEX, 0, 1, lean_immediate(t->s, recent));
         emit_leap(t, JA, 0, 0, 0, 0);
         break;
@@ -636,9 +687,12 @@ static void generate_corner(struct source *s, struct program *p, uint64_t number
     uint64_t d = round == 0 ? corners[rest % CORNERS] : draw(s) >> below(s, 64);
     uint64_t second = second_operand(rest / CORNERS % SECOND_OPERANDS);
     unsigned src = opcode & BY_REGISTER ? 3 : 0;
-    int32_t imm = opcode & BY_REGISTER || (is_arithmetic(opcode) && (opcode & 0xf0) == NEG) ? 0 : (int32_t)(uint32_t)second;
+    int32_t imm;
     if (round > 0 && !is_shift(opcode) && one_in(s, 2))
         second = one_in(s, 2) ? d : d + 1 - 2 * below(s, 2);
+    if (round > 0 && is_conditional(opcode) && one_in(s, 2))
+        second ^= draw(s) << 32;
+    imm = opcode & BY_REGISTER || (is_arithmetic(opcode) && (opcode & 0xf0) == NEG) ? 0 : (int32_t)(uint32_t)second;
     if (is_load(opcode) || is_store(opcode)) {
         emit_corner_access(s, p, opcode, d, second);
     } else {
@@ -673,7 +727,7 @@ void generate(struct source *s, enum kind kind, uint64_t number, struct program 
 
 /* ---- records */
 
-/* Numbers near immediates of the program, in 1, 2, 4 or 8 bytes each. */
+/* Numbers near immediates of the program, in 1, 2, 4 or 8 bytes each; half of those of 8 have another upper half. */
 static void fill_from_immediates(struct source *s, const struct program *p, uint8_t *record, uint64_t length) {
     uint64_t k = 0;
     while (k < length) {
@@ -681,6 +735,8 @@ static void fill_from_immediates(struct source *s, const struct program *p, uint
         uint32_t imm = (uint32_t)at[4] | (uint32_t)at[5] << 8 | (uint32_t)at[6] << 16 | (uint32_t)at[7] << 24;
         uint64_t number = (uint64_t)(int64_t)(int32_t)imm + below(s, 3) - 1;
         uint64_t size = (uint64_t)1 << below(s, 4);
+        if (size == 8 && one_in(s, 2))
+            number ^= draw(s) >> below(s, 32) << 32;
         for (uint64_t j = 0; j < size && k < length; j++)
             record[k++] = (uint8_t)(number >> (8 * j));
     }

@@ -62,6 +62,15 @@ static size_t read_program(const char *text, uint8_t *bytes) {
 #define LOW_HALF                                                                                                                          \
     "7912000000000000 bc23000000000000 250303000f000000 0f21000000000000 7110010000000000 9500000000000000 b700000000000000 "             \
     "9500000000000000"
+#define LOW_HALF_6                                                                                                                        \
+    "7912000000000000 260203000f000000 0f21000000000000 7110010000000000 9500000000000000 b700000000000000 9500000000000000"
+#define LOW_HALF_KEPT                                                                                                                     \
+    "7912000000000000 260204000f000000 bc22000000000000 0f21000000000000 7110010000000000 9500000000000000 b700000000000000 "             \
+    "9500000000000000"
+#define K2_6 "7112000000000000 260203000a000000 0f21000000000000 7110010000000000 9500000000000000 b700000000000000 9500000000000000"
+#define SIGN_6 "b402000000000080 b700000000000000 c602010000000000 b700000001000000 9500000000000000"
+#define EQUAL_6                                                                                                                           \
+    "b7020000ffffffff b4030000ffffffff b700000000000000 1e32010000000000 b700000001000000 9500000000000000"
 #define AFTER_EXIT "b700000000000000 9500000000000000 9500000000000000"
 #define AFTER_JA "b700000000000000 0500010000000000 b700000001000000 9500000000000000"
 #define DEAD_JUMPS "b700000000000000 0500010000000000 0500010000000000 9500000000000000 9500000000000000"
@@ -108,6 +117,12 @@ static const struct worked_run runs[] = {
     {"off in MOV", "bf10080000000000", 0, 0, S_HIGH, PW_FAULT, 1, 0, 0},
     {"NEG of a register", "8f00000000000000", 0, 0, S_HIGH, PW_FAULT, 1, 0, 0},
     {"EXIT with imm", "9500000001000000", 0, 0, S_HIGH, PW_FAULT, 1, 0, 0},
+    {"class 6, bit 31 is the sign", SIGN_6, 0, 0, S_HIGH, PW_VERDICT, 0, 4, 0},
+    {"class 6, equal low halves", EQUAL_6, 0, 0, S_HIGH, PW_VERDICT, 0, 5, 0},
+    {"K2 in class 6", K2_6, 12, 10, S_HIGH, PW_VERDICT, 12, 5, 0},
+    {"K2 in class 6, byte 0 11", K2_6, 12, 11, S_HIGH, PW_VERDICT, 0, 4, 0},
+    {"JA in class 6", "0600000000000000", 0, 0, S_HIGH, PW_FAULT, 1, 0, 0},
+    {"EXIT in class 6", "9600000000000000", 0, 0, S_HIGH, PW_FAULT, 1, 0, 0},
     {"a jump to -1", "0500feff00000000", 0, 0, S_HIGH, PW_FAULT, 2, 1, UINT64_MAX},
 };
 
@@ -170,6 +185,12 @@ static const struct worked_verification {
     {"extended with its sign", SIGN_EXTENDED, 1024, 8, 5},
     {"low half tested", LOW_HALF, 8, 8, 4},
     {"low half tested", LOW_HALF, 1024, 8, 4},
+    {"low half tested by class 6", LOW_HALF_6, 8, 8, 3},
+    {"low half tested by class 6", LOW_HALF_6, 1024, 8, 3},
+    {"low half tested by class 6, and kept", LOW_HALF_KEPT, 17, 0, 0},
+    {"low half tested by class 6, and kept", LOW_HALF_KEPT, 16, 8, 4},
+    {"K2 in class 6", K2_6, 12, 0, 0},
+    {"K2 in class 6", K2_6, 11, 8, 3},
     {"K3, R 1024", K3, 1024, 0, 0},
     {"K3, R 1025", K3, 1025, 2, 0},
     {"after EXIT", AFTER_EXIT, 8, 12, 2},
@@ -229,8 +250,8 @@ static void try_all_opcodes(void) {
         opcodes_of_reference += ref_form(program, sizeof program, 0).reason != 3;
     }
     count(differing == 0, "every opcode with every pair of registers", "the library differs from the reference");
-    count(opcodes_of_library == 86, "86 opcodes", "library");
-    count(opcodes_of_reference == 86, "86 opcodes", "reference");
+    count(opcodes_of_library == 108, "108 opcodes", "library");
+    count(opcodes_of_reference == 108, "108 opcodes", "reference");
 }
 
 int main(void) {

@@ -50,8 +50,9 @@ BEGIN {
             else arithmetic(16 * (k - 1) + class)
         }
     n = split("JEQ JGT JGE JSET JNE JSGT JSGE - - JLT JLE JSLT JSLE", comparison)
-    for (k = 1; k <= n; k++)
-        if (comparison[k] != "-") { print "# " comparison[k]; jump(16 * k + 5) }
+    for (class = 5; class <= 6; class++)
+        for (k = 1; k <= n; k++)
+            if (comparison[k] != "-") { print "# " comparison[k] (class == 5 ? "" : ", 32 bits"); jump(16 * k + class) }
     print "# JA"
     put(5, 0, 0, 0, 0); put(5, 0, 0, 1, 0); put(5, 0, 0, -1, 0); put(5, 0, 0, 32767, 0); put(5, 0, 0, -32768, 0)
     split("97 105 113 121", load)

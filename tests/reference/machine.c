@@ -1,4 +1,4 @@
-/* machine.c: the probe machine, in the order of document 01 and from that document only.
+/* machine.c: the probe machine, in the order of document 01 and from that document only, class 6 from document 02.
  * An independent reference for tests: it shares no code with the product. */
 #include "reference.h"
 
@@ -29,16 +29,18 @@ static int is_arithmetic(const struct ref_instruction *i) {
     return second_operand_is_proper(i);
 }
 
+static int is_condition(unsigned operation) {
+    return operation <= REF_JSLE && operation != REF_JA && operation != REF_CALL && operation != REF_EXIT;
+}
+
 static int is_of_jump_class(const struct ref_instruction *i) {
     switch (i->operation) {
     case REF_JA:
         return !i->from_register && i->dst == 0 && i->src == 0 && i->imm == 0;
     case REF_EXIT:
         return !i->from_register && i->dst == 0 && i->src == 0 && i->imm == 0 && i->off == 0;
-    case REF_CALL:
-        return 0;
     default:
-        return i->operation <= REF_JSLE && second_operand_is_proper(i);
+        return is_condition(i->operation) && second_operand_is_proper(i);
     }
 }
 
@@ -59,6 +61,8 @@ int ref_decode(const uint8_t *bytes, struct ref_instruction *i) {
         return is_arithmetic(i);
     case REF_JUMP:
         return is_of_jump_class(i);
+    case REF_JUMP32: /* neither JA nor EXIT */
+        return is_condition(i->operation) && second_operand_is_proper(i);
     case REF_LDX:
     case REF_STX:
         return i->size != 0 && i->imm == 0;
@@ -74,7 +78,7 @@ int ref_is_exit(const struct ref_instruction *i) {
 }
 
 int ref_is_jump(const struct ref_instruction *i) {
-    return i->class == REF_JUMP && i->operation != REF_EXIT;
+    return (i->class == REF_JUMP && i->operation != REF_EXIT) || i->class == REF_JUMP32;
 }
 
 static int is_alu(const struct ref_instruction *i) {
@@ -120,13 +124,18 @@ static uint64_t arithmetic(unsigned operation, unsigned bits, uint64_t d, uint64
 
 /* ---- section 3: whether a jump is taken */
 
-/* Moves the signed order onto the unsigned one. */
-static uint64_t in_signed_order(uint64_t number) {
-    return number ^ (uint64_t)1 << 63;
+/* Moves the signed order of numbers of so many bits onto the unsigned one. */
+static uint64_t in_signed_order(uint64_t number, unsigned bits) {
+    return number ^ (uint64_t)1 << (bits - 1);
 }
 
-static int is_taken(unsigned operation, uint64_t d, uint64_t s) {
-    uint64_t signed_d = in_signed_order(d), signed_s = in_signed_order(s);
+/* Class 5 compares 64 bits. Class 6 compares the low 32 of both operands, and bit 31 is the sign. */
+static int is_taken(unsigned operation, unsigned bits, uint64_t d, uint64_t s) {
+    uint64_t all = bits == 64 ? UINT64_MAX : UINT32_MAX, signed_d, signed_s;
+    d &= all;
+    s &= all;
+    signed_d = in_signed_order(d, bits);
+    signed_s = in_signed_order(s, bits);
     switch (operation) {
     case REF_JA: return 1;
     case REF_JEQ: return d == s;
@@ -174,13 +183,13 @@ static int in_stack(const struct machine *m, uint64_t address, unsigned size) {
 static int reads_dst(const struct ref_instruction *i) {
     if (is_alu(i))
         return i->operation != REF_MOV;
-    if (i->class == REF_JUMP)
-        return i->operation != REF_JA && i->operation != REF_EXIT;
+    if (i->class == REF_JUMP || i->class == REF_JUMP32)
+        return is_condition(i->operation);
     return i->class == REF_ST || i->class == REF_STX;
 }
 
 static int reads_src(const struct ref_instruction *i) {
-    if (is_alu(i) || i->class == REF_JUMP)
+    if (is_alu(i) || i->class == REF_JUMP || i->class == REF_JUMP32)
         return i->from_register;
     return i->class == REF_LDX || i->class == REF_STX;
 }
@@ -230,7 +239,8 @@ static void take_effect(struct machine *m, const struct ref_instruction *i) {
     case REF_ST: store(m, d + off, i->size, (uint64_t)i->imm); break;
     case REF_STX: store(m, d + off, i->size, m->registers[i->src]); break;
     case REF_JUMP:
-        if (is_taken(i->operation, d, s))
+    case REF_JUMP32:
+        if (is_taken(i->operation, i->class == REF_JUMP ? 64 : 32, d, s))
             m->pc += off;
         break;
     }

@@ -1,5 +1,5 @@
 /* reference.h: a second, independent description of the probe machine and of the verifier's tests on form.
- * Written from documents 01 and 03, and dead code from document 02; it shares no code with the product. */
+ * Written from documents 01 and 03, and dead code and class 6 from document 02; it shares no code with the product. */
 #ifndef REFERENCE_H
 #define REFERENCE_H
 
@@ -17,9 +17,9 @@ enum ref_outcome { REF_VERDICT, REF_FAULT, REF_BUDGET, REF_REFUSED };
 
 enum ref_fault { REF_BAD_CODE = 1, REF_OFF_END = 2, REF_UNSET = 3, REF_WRITE_R10 = 4, REF_BAD_ACCESS = 5 };
 
-/* ---- one instruction (document 01, sections 1 to 4) */
+/* ---- one instruction (document 01, sections 1 to 4, and class 6) */
 
-enum ref_class { REF_LDX = 1, REF_ST = 2, REF_STX = 3, REF_ALU32 = 4, REF_JUMP = 5, REF_ALU64 = 7 };
+enum ref_class { REF_LDX = 1, REF_ST = 2, REF_STX = 3, REF_ALU32 = 4, REF_JUMP = 5, REF_JUMP32 = 6, REF_ALU64 = 7 };
 
 enum ref_operation {
     REF_ADD, REF_SUB, REF_MUL, REF_DIV, REF_OR, REF_AND, REF_LSH, REF_RSH, REF_NEG, REF_MOD, REF_XOR, REF_MOV, REF_ARSH

@@ -47,7 +47,7 @@ proper-words : (ins : Instruction) → (isNoInstruction ins ≡ false → Proper
 unfolding isNoInstruction
 proper-words (Alu w op d s) h = proper-word s (h refl .2)
 proper-words (Neg w d) h = tt
-proper-words (Jump k d s off) h = proper-word s (h refl .1)
+proper-words (Jump w k d s off) h = proper-word s (h refl .1)
 proper-words (Always off) h = tt
 proper-words Exit h = tt
 proper-words (Load z d s off) h = off-word off (h refl .2)

@@ -27,8 +27,7 @@ use Rattle.number.specs.declared.Refined.{Refined}
 use Rattle.number.specs.declared.Refined.the-variants.{Excluded, Possible}
 use Rattle.number.specs.Sharpen.{exact, just}
 use Rattle.number.specs.Computed.{computed, fits}
-use Rattle.number.specs.Compare.{taken, notTaken, refined}
-use Rattle.number.proofs.Laws.{computed-exact, refined-exact, refined-exact-excluded}
+use Rattle.number.proofs.Laws.{computed-exact}
 use Rattle.analysis.specs.declared.Reason.the-variants.{WritesR10, ReadsUnset, Outside, LeaksAddress}
 use Rattle.analysis.specs.declared.Region.{Region}
 use Rattle.analysis.specs.declared.Region.the-variants.{Record, Stack}
@@ -39,8 +38,9 @@ use Rattle.analysis.specs.declared.Finding.the-variants.{Accepted}
 use Rattle.analysis.specs.declared.Effect.{Effect}
 use Rattle.analysis.specs.declared.Effect.the-variants.{Refuse, Put, Keep, Fork, Goto, Stop}
 use Rattle.analysis.specs.Values.{Facts, valueOf, operandOf}
-use Rattle.analysis.specs.Effects.{isNever, isMixed, reading, readingBoth, put, Role, copies, converts, adds, subtracts, calculates, role, calculate, sum, difference, arithmetic, storeAt, store, fork, exit, effect}
+use Rattle.analysis.specs.Effects.{isNever, isMixed, reading, readingBoth, put, Role, copies, converts, adds, subtracts, calculates, role, calculate, sum, difference, arithmetic, storeAt, store, told, fork, exit, effect}
 use Rattle.analysis.specs.Judged.{having, withOperand, along}
+use Rattle.analysis.proofs.Told.{told-exact, told-exact-excluded}
 use Rattle.analysis.proofs.LayoutFree.{Cell, unset, number, offset, Config, Course, stuck, ends, goes, cellOf, operandCell, putCell, copied, calculated, summed, subtracted, worked, storedAt, stored, jumpedTo, forked, exited, free}
 use Rattle.analysis.proofs.Meaning.{Stands, StandAll, Describes, stand-get}
 use Rattle.analysis.proofs.Sound.{WordOperand, Words, wide, value-stands}
@@ -230,29 +230,29 @@ module _ (c : Config) where
   unfolding along
   along-excluded d s o e = ap (along (facts c) d s) e
 
-  compare-matches : (k : Comparison) (d : ℕ) (s : Operand) (off x y : ℕ) → x < 2 ^ 64 → y < 2 ^ 64 → cellOf c d ≡ number x → operandCell c s ≡ number y
-      → Matches c (Fork d s (notTaken k (exact x) (exact y)) (taken k (exact x) (exact y)) (c .index + 1 + off)) (jumpedTo (compare 64 k x y) c off)
-  unfolding jumpedTo refined
-  compare-matches k d s off x y p q e f = go (compare 64 k x y) refl
+  compare-matches : (w : Width) (k : Comparison) (d : ℕ) (s : Operand) (off x y : ℕ) → x < 2 ^ 64 → y < 2 ^ 64 → cellOf c d ≡ number x → operandCell c s ≡ number y
+      → Matches c (Fork d s (told w k false (exact x) (exact y)) (told w k true (exact x) (exact y)) (c .index + 1 + off)) (jumpedTo (compare (bits w) k x y) c off)
+  unfolding jumpedTo
+  compare-matches w k d s off x y p q e f = go (compare (bits w) k x y) refl
     where
-      go : (t : Bool) → compare 64 k x y ≡ t
-          → Matches c (Fork d s (notTaken k (exact x) (exact y)) (taken k (exact x) (exact y)) (c .index + 1 + off))
+      go : (t : Bool) → compare (bits w) k x y ≡ t
+          → Matches c (Fork d s (told w k false (exact x) (exact y)) (told w k true (exact x) (exact y)) (c .index + 1 + off))
           (goes (record { registers = c .registers; stack = c .stack; index = cond t ((c .index + 1 + off) % 2 ^ 64) (c .index + 1) }))
-      go true h = inr (refl, along-excluded d s _ (refined-exact-excluded k false x y p q h), along-exact d s x y _ e f (refined-exact k true x y p q h))
-      go false h = inl (refl, along-exact d s x y _ e f (refined-exact k false x y p q h), along-excluded d s _ (refined-exact-excluded k true x y p q h))
+      go true h = inr (refl, along-excluded d s _ (told-exact-excluded w k false x y p q h), along-exact d s x y _ e f (told-exact w k true x y p q h))
+      go false h = inl (refl, along-exact d s x y _ e f (told-exact w k false x y p q h), along-excluded d s _ (told-exact-excluded w k true x y p q h))
 
-  fork-matches : (k : Comparison) (d : ℕ) (s : Operand) (off : ℕ) (x y : Cell) → Small x → Small y → cellOf c d ≡ x → operandCell c s ≡ y
-      → Matches c (readingBoth (exactly x) (exactly y) (fork k d s (c .index + 1 + off) (exactly x) (exactly y))) (forked k c off x y)
+  fork-matches : (w : Width) (k : Comparison) (d : ℕ) (s : Operand) (off : ℕ) (x y : Cell) → Small x → Small y → cellOf c d ≡ x → operandCell c s ≡ y
+      → Matches c (readingBoth (exactly x) (exactly y) (fork w k d s (c .index + 1 + off) (exactly x) (exactly y))) (forked w k c off x y)
   unfolding readingBoth isNever isMixed fork forked
-  fork-matches k d s off unset unset p q e f = tt
-  fork-matches k d s off unset (number b) p q e f = tt
-  fork-matches k d s off unset (offset l u) p q e f = tt
-  fork-matches k d s off (number a) unset p q e f = tt
-  fork-matches k d s off (number a) (number b) p q e f = compare-matches k d s off a b p q e f
-  fork-matches k d s off (number a) (offset l u) p q e f = tt
-  fork-matches k d s off (offset j o) unset p q e f = tt
-  fork-matches k d s off (offset j o) (number b) p q e f = tt
-  fork-matches k d s off (offset j o) (offset l u) p q e f = tt
+  fork-matches w k d s off unset unset p q e f = tt
+  fork-matches w k d s off unset (number b) p q e f = tt
+  fork-matches w k d s off unset (offset l u) p q e f = tt
+  fork-matches w k d s off (number a) unset p q e f = tt
+  fork-matches w k d s off (number a) (number b) p q e f = compare-matches w k d s off a b p q e f
+  fork-matches w k d s off (number a) (offset l u) p q e f = tt
+  fork-matches w k d s off (offset j o) unset p q e f = tt
+  fork-matches w k d s off (offset j o) (number b) p q e f = tt
+  fork-matches w k d s off (offset j o) (offset l u) p q e f = tt
 
   exit-matches : (x : Cell) → Matches c (reading (exactly x) (exit (exactly x))) (exited x)
   unfolding reading isNever isMixed exit exited
@@ -265,7 +265,7 @@ module _ (c : Config) where
 unfoldable pub isLoad : Instruction → Bool
 isLoad (Alu w op d s) = false
 isLoad (Neg w d) = false
-isLoad (Jump k d s off) = false
+isLoad (Jump w k d s off) = false
 isLoad (Always off) = false
 isLoad Exit = false
 isLoad (Load z d s off) = true
@@ -286,8 +286,8 @@ module _ (R : ℕ) (rec : List ℕ) (c : Config) (here : Describes (facts c) c) 
   effect-matches (Alu w op d s) h l =
       rw (value-exact c d, operand-exact c s) (worked-matches c (role w op) (bits w) (wide w) op d (cellOf c d) (operandCell c s) (small-register d) (small-operand s h))
   effect-matches (Neg w d) h l = rw (value-exact c d) (convert-matches c (bits w) (wide w) operation.Neg d (cellOf c d) (small-register d))
-  effect-matches (Jump k d s off) h l =
-      rw (value-exact c d, operand-exact c s) (fork-matches c k d s off (cellOf c d) (operandCell c s) (small-register d) (small-operand s h) refl refl)
+  effect-matches (Jump w k d s off) h l =
+      rw (value-exact c d, operand-exact c s) (fork-matches c w k d s off (cellOf c d) (operandCell c s) (small-register d) (small-operand s h) refl refl)
   effect-matches (Always off) h l = (refl, refl)
   effect-matches Exit h l = rw (value-exact c 0) (exit-matches c (cellOf c 0))
   effect-matches (Load z d s off) h l = absurd (true≢false l)

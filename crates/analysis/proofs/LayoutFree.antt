@@ -10,6 +10,7 @@ use Rattle.word.specs.Word.{cut, alu, compare, readBytes, writeBytes}
 use Rattle.word.specs.declared.Operation.{Operation}
 use Rattle.word.specs.declared.Operation.the-variants as operation
 use Rattle.word.specs.declared.Comparison.{Comparison}
+use Rattle.machine.specs.declared.instruction.Width.{Width}
 use Rattle.machine.specs.declared.instruction.Operand.{Operand}
 use Rattle.machine.specs.declared.instruction.Operand.the-variants.{Immediate, Register}
 use Rattle.machine.specs.declared.instruction.Instruction.{Instruction}
@@ -117,12 +118,12 @@ unfoldable pub jumpedTo : Bool → Config → ℕ → Course
 jumpedTo taken c off =
     goes (record { registers = c .registers; stack = c .stack; index = cond taken ((c .index + 1 + off) % 2 ^ 64) (c .index + 1) })
 
-unfoldable pub forked : Comparison → Config → ℕ → Cell → Cell → Course
-forked k c off unset y = stuck
-forked k c off (number a) unset = stuck
-forked k c off (number a) (number b) = jumpedTo (compare 64 k a b) c off
-forked k c off (number a) (offset q u) = stuck
-forked k c off (offset p o) y = stuck
+unfoldable pub forked : Width → Comparison → Config → ℕ → Cell → Cell → Course
+forked w k c off unset y = stuck
+forked w k c off (number a) unset = stuck
+forked w k c off (number a) (number b) = jumpedTo (compare (bits w) k a b) c off
+forked w k c off (number a) (offset q u) = stuck
+forked w k c off (offset p o) y = stuck
 
 unfoldable pub exited : Cell → Course
 exited unset = stuck
@@ -133,7 +134,7 @@ exited (offset p o) = stuck
 unfoldable pub free : List ℕ → Config → Instruction → Course
 free rec c (Alu w op d s) = worked (role w op) (bits w) op c d (cellOf c d) (operandCell c s)
 free rec c (Neg w d) = calculated (bits w) operation.Neg c d (cellOf c d) (cellOf c d)
-free rec c (Jump k d s off) = forked k c off (cellOf c d) (operandCell c s)
+free rec c (Jump w k d s off) = forked w k c off (cellOf c d) (operandCell c s)
 free rec c (Always off) = jumpedTo true c off
 free rec c Exit = exited (cellOf c 0)
 free rec c (Load z d s off) = loaded rec (bytes z) c d off (cellOf c s)

@@ -14,6 +14,7 @@ pub mod Stable
 pub mod StackSize
 pub mod Tests
 pub mod Theorem
+pub mod Told
 pub mod Unsafe
 pub mod Useful
 pub mod Vectors

@@ -14,6 +14,7 @@ use borrow.Author.Tests.{leb-false, lt-ltb, eqb-true, eqb-false, not-false}
 use Rattle.word.specs.declared.Operation.{Operation}
 use Rattle.word.specs.declared.Operation.the-variants as operation
 use Rattle.word.specs.declared.Comparison.{Comparison}
+use Rattle.machine.specs.declared.instruction.Width.{Width}
 use Rattle.machine.specs.declared.instruction.Operand.{Operand}
 use Rattle.machine.specs.declared.instruction.Instruction.{Instruction}
 use Rattle.machine.specs.declared.instruction.Instruction.the-variants.{Alu, Neg, Jump, Always, Exit, Load, Store, NoInstruction}
@@ -144,13 +145,13 @@ module _ (n i : ℕ) where
   store-lawful size off u (Address q b) on = leak-lawful
   store-lawful size off u (Unusable h) on = leak-lawful
 
-  fork-lawful : (c : Comparison) (d : ℕ) (s : Operand) (target : ℕ) (u v : Value) → i + 1 < n → target < n → i < target → Lawful n i (fork c d s target u v)
+  fork-lawful : (w : Width) (c : Comparison) (d : ℕ) (s : Operand) (target : ℕ) (u v : Value) → i + 1 < n → target < n → i < target → Lawful n i (fork w c d s target u v)
   unfolding fork
-  fork-lawful c d s target (Plain a) (Plain b) on to ahead = (on, to, ahead)
-  fork-lawful c d s target (Plain a) (Address q b) on to ahead = leak-lawful
-  fork-lawful c d s target (Plain a) (Unusable h) on to ahead = leak-lawful
-  fork-lawful c d s target (Address p a) v on to ahead = leak-lawful
-  fork-lawful c d s target (Unusable g) v on to ahead = leak-lawful
+  fork-lawful w c d s target (Plain a) (Plain b) on to ahead = (on, to, ahead)
+  fork-lawful w c d s target (Plain a) (Address q b) on to ahead = leak-lawful
+  fork-lawful w c d s target (Plain a) (Unusable h) on to ahead = leak-lawful
+  fork-lawful w c d s target (Address p a) v on to ahead = leak-lawful
+  fork-lawful w c d s target (Unusable g) v on to ahead = leak-lawful
 
   exit-lawful : (v : Value) → Lawful n i (exit v)
   unfolding exit
@@ -173,8 +174,8 @@ module _ (n i : ℕ) where
   unfolding effect writes names10 offOf goesOut mayBeLast isNoInstruction
   effect-lawful R a (Alu w op d s) l f = arithmetic-lawful d (keeps-10 d (f .keeps-r10)) (not-last (Alu w op d s) l f refl) (role w op) (bits w) op _ _
   effect-lawful R a (Neg w d) l f = reading-lawful _ _ (calculate-lawful d (keeps-10 d (f .keeps-r10)) (not-last (Neg w d) l f refl) (bits w) operation.Neg _ _)
-  effect-lawful R a (Jump c d s off) l f =
-      reading-both-lawful _ _ _ (fork-lawful c d s (i + 1 + off) _ _ (not-last (Jump c d s off) l f refl) (leb-false n (i + 1 + off) (f .stays-in)) (omega arith))
+  effect-lawful R a (Jump w c d s off) l f =
+      reading-both-lawful _ _ _ (fork-lawful w c d s (i + 1 + off) _ _ (not-last (Jump w c d s off) l f refl) (leb-false n (i + 1 + off) (f .stays-in)) (omega arith))
   effect-lawful R a (Always off) l f = (leb-false n (i + 1 + off) (f .stays-in), omega arith)
   effect-lawful R a Exit l f = reading-lawful _ _ (exit-lawful _)
   effect-lawful R a (Load z d s off) l f = reading-lawful _ _ (load-lawful d (keeps-10 d (f .keeps-r10)) (not-last (Load z d s off) l f refl) R (bytes z) off _)

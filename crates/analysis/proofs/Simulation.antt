@@ -234,16 +234,16 @@ module _ (w : World) where
   neg-same c wd d (offset k o) p = tt
 
   -- ---- jumps
-  forked-same : (c : Config) (k : Comparison) (d : ℕ) (s : Operand) (off : ℕ) (x y : Cell) → cellOf c d ≡ x → operandCell c s ≡ y
-      → Same (forked k c off x y) (obey w (concrete c) (Jump k d s off))
+  forked-same : (c : Config) (wd : Width) (k : Comparison) (d : ℕ) (s : Operand) (off : ℕ) (x y : Cell) → cellOf c d ≡ x → operandCell c s ≡ y
+      → Same (forked wd k c off x y) (obey w (concrete c) (Jump wd k d s off))
   unfolding forked jumpedTo jumped effect reads writes isNoInstruction names10 anyUnset isUnset value held
-  forked-same c k d s off unset y p q = tt
-  forked-same c k d s off (number a) unset p q = tt
-  forked-same c k d s off (number a) (number b) p q =
-      obeyed (concrete c) (Jump k d s off) refl refl (rw (content-conc c d) (rw p (operand-unset c s ∙ rw q refl)))
-      ∙ ap₂ (λ m n. machine.goes (jumped (compare 64 k m n) (concrete c) off)) (ap held (content-conc c d ∙ ap conc p)) (operand-conc c s ∙ ap (λ z. held (conc z)) q)
-  forked-same c k d s off (number a) (offset l u) p q = tt
-  forked-same c k d s off (offset l o) y p q = tt
+  forked-same c wd k d s off unset y p q = tt
+  forked-same c wd k d s off (number a) unset p q = tt
+  forked-same c wd k d s off (number a) (number b) p q =
+      obeyed (concrete c) (Jump wd k d s off) refl refl (rw (content-conc c d) (rw p (operand-unset c s ∙ rw q refl)))
+      ∙ ap₂ (λ m n. machine.goes (jumped (compare (bits wd) k m n) (concrete c) off)) (ap held (content-conc c d ∙ ap conc p)) (operand-conc c s ∙ ap (λ z. held (conc z)) q)
+  forked-same c wd k d s off (number a) (offset l u) p q = tt
+  forked-same c wd k d s off (offset l o) y p q = tt
 
   exited-same : (c : Config) (x : Cell) → cellOf c 0 ≡ x → Same (exited x) (obey w (concrete c) Exit)
   unfolding exited effect reads writes isNoInstruction names10 anyUnset isUnset value held
@@ -363,7 +363,7 @@ module _ (w : World) where
     unfolding free jumpedTo jumped effect reads writes isNoInstruction names10 anyUnset
     free-same c (Alu wd op d s) l = alu-same c wd op d s
     free-same c (Neg wd d) l = neg-same c wd d _ refl
-    free-same c (Jump k d s off) l = forked-same c k d s off _ _ refl refl
+    free-same c (Jump wd k d s off) l = forked-same c wd k d s off _ _ refl refl
     free-same c (Always off) l = obeyed (concrete c) (Always off) refl refl refl
     free-same c Exit l = exited-same c _ refl
     free-same c (Load z d s off) l = loaded-same c z d s off l _ refl

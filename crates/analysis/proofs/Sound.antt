@@ -33,7 +33,6 @@ use Rattle.number.specs.Meaning.{In, Kept}
 use Rattle.number.specs.Sharpen.{exact}
 use Rattle.number.specs.Sharpen as numbers
 use Rattle.number.specs.Computed.{computed, fits}
-use Rattle.number.specs.Compare.{taken, notTaken, refined}
 use Rattle.analysis.specs.declared.Reason.{Reason}
 use Rattle.analysis.specs.declared.Reason.the-variants.{WritesR10, ReadsUnset, Outside, LeaksAddress}
 use Rattle.analysis.specs.declared.Region.{Region}
@@ -44,12 +43,13 @@ use Rattle.analysis.specs.declared.Value.the-variants.{Unusable, Plain, 
 use Rattle.analysis.specs.declared.Effect.{Effect}
 use Rattle.analysis.specs.declared.Effect.the-variants.{Refuse, Put, Keep, Fork, Goto, Stop}
 use Rattle.analysis.specs.Values.{Facts, valueOf, operandOf}
-use Rattle.analysis.specs.Effects.{isNever, isMixed, reading, readingBoth, put, Role, copies, converts, adds, subtracts, calculates, role, calculate, sum, difference, arithmetic, limit, load, storeAt, store, fork, exit, effect}
+use Rattle.analysis.specs.Effects.{isNever, isMixed, reading, readingBoth, put, Role, copies, converts, adds, subtracts, calculates, role, calculate, sum, difference, arithmetic, limit, load, storeAt, store, told, fork, exit, effect}
 use Rattle.analysis.specs.Judged.{having, withOperand, along, Flow, refuses, flows, apply}
 use Rattle.analysis.specs.Safe.{Bytes}
+use Rattle.analysis.proofs.Told.{told-sound}
 use Rattle.analysis.proofs.LayoutFree.{Cell, unset, number, offset, Config, Course, stuck, ends, goes, cellOf, operandCell, putCell, copied, calculated, summed, subtracted, worked, region, loadedAt, loaded, storedAt, stored, jumpedTo, forked, exited, free}
 use Rattle.analysis.proofs.Meaning.{Stands, StandAll, Describes, Awaits, stand-get, stand-set, stand-learn}
-use Rattle.number.proofs.Laws.{exact-in, loaded-in, computed-sound, fits-sound, refined-sound}
+use Rattle.number.proofs.Laws.{exact-in, loaded-in, computed-sound, fits-sound}
 
 -- what the instruction holds is of 64 bits
 abbrev pub WordOperand : Operand → Type 0
@@ -59,7 +59,7 @@ WordOperand (Register r) = Unit {0}
 abbrev pub Words : Instruction → Type 0
 Words (Alu w op d s) = WordOperand s
 Words (Neg w d) = Unit {0}
-Words (Jump k d s off) = WordOperand s
+Words (Jump w k d s off) = WordOperand s
 Words (Always off) = Unit {0}
 Words Exit = Unit {0}
 Words (Load z d s off) = off < 2 ^ 64
@@ -211,33 +211,33 @@ module _ (a : Facts) (c : Config) (d : Describes a c) where
       (record { registers = stand-learn (a .registers) (c .registers) r (Plain m) (d .registers) (rw p (h .0)); stack-size = d .stack-size; stack-bytes = d .stack-bytes })
       q (h .1)
 
-  compare-follows : (k : Comparison) (r : ℕ) (s : Operand) (off : ℕ) (m n : Number) (x y : ℕ) → cellOf c r ≡ number x → operandCell c s ≡ number y → In m x → In n y
-      → Follows (c .index) (apply a (Fork r s (notTaken k m n) (taken k m n) (c .index + 1 + off))) (jumpedTo (compare 64 k x y) c off)
-  unfolding apply jumpedTo refined along
-  compare-follows k r s off m n x y p q h l = go (compare 64 k x y) refl
+  compare-follows : (w : Width) (k : Comparison) (r : ℕ) (s : Operand) (off : ℕ) (m n : Number) (x y : ℕ) → cellOf c r ≡ number x → operandCell c s ≡ number y → In m x → In n y
+      → Follows (c .index) (apply a (Fork r s (told w k false m n) (told w k true m n) (c .index + 1 + off))) (jumpedTo (compare (bits w) k x y) c off)
+  unfolding apply jumpedTo along
+  compare-follows w k r s off m n x y p q h l = go (compare (bits w) k x y) refl
     where
       same : (t : Bool) (j : ℕ) (o : Refined) → Awaits (along a r s o) c → Awaits (along a r s o) (record { registers = c .registers; stack = c .stack; index = j })
       same t j Excluded e = e
       same t j (Possible u v) e = record { registers = e .registers; stack-size = e .stack-size; stack-bytes = e .stack-bytes }
 
-      go : (t : Bool) → compare 64 k x y ≡ t
-          → Follows (c .index) (flows (along a r s (notTaken k m n)) (along a r s (taken k m n)) (c .index + 1 + off))
+      go : (t : Bool) → compare (bits w) k x y ≡ t
+          → Follows (c .index) (flows (along a r s (told w k false m n)) (along a r s (told w k true m n)) (c .index + 1 + off))
           (goes (record { registers = c .registers; stack = c .stack; index = cond t ((c .index + 1 + off) % 2 ^ 64) (c .index + 1) }))
-      go true e = inr (omega arith, refl, same true _ (taken k m n) (along-awaits r s x y (taken k m n) p q (refined-sound k true m n x y h l e)))
-      go false e = inl (refl, same false _ (notTaken k m n) (along-awaits r s x y (notTaken k m n) p q (refined-sound k false m n x y h l e)))
+      go true e = inr (omega arith, refl, same true _ (told w k true m n) (along-awaits r s x y (told w k true m n) p q (told-sound w k true m n x y h l e)))
+      go false e = inl (refl, same false _ (told w k false m n) (along-awaits r s x y (told w k false m n) p q (told-sound w k false m n x y h l e)))
 
-  fork-follows : (k : Comparison) (r : ℕ) (s : Operand) (off : ℕ) (u v : Value) (x y : Cell) → cellOf c r ≡ x → operandCell c s ≡ y → Stands u x → Stands v y
-      → Follows (c .index) (apply a (fork k r s (c .index + 1 + off) u v)) (forked k c off x y)
+  fork-follows : (w : Width) (k : Comparison) (r : ℕ) (s : Operand) (off : ℕ) (u v : Value) (x y : Cell) → cellOf c r ≡ x → operandCell c s ≡ y → Stands u x → Stands v y
+      → Follows (c .index) (apply a (fork w k r s (c .index + 1 + off) u v)) (forked w k c off x y)
   unfolding fork forked apply
-  fork-follows k r s off (Unusable g) v x y p q h l = tt
-  fork-follows k r s off (Plain m) (Unusable g) x y p q h l = tt
-  fork-follows k r s off (Plain m) (Plain n) unset y p q h l = absurd h
-  fork-follows k r s off (Plain m) (Plain n) (number x) unset p q h l = absurd l
-  fork-follows k r s off (Plain m) (Plain n) (number x) (number y) p q h l = compare-follows k r s off m n x y p q h l
-  fork-follows k r s off (Plain m) (Plain n) (number x) (offset b o) p q h l = absurd l
-  fork-follows k r s off (Plain m) (Plain n) (offset b o) y p q h l = absurd h
-  fork-follows k r s off (Plain m) (Address b n) x y p q h l = tt
-  fork-follows k r s off (Address b m) v x y p q h l = tt
+  fork-follows w k r s off (Unusable g) v x y p q h l = tt
+  fork-follows w k r s off (Plain m) (Unusable g) x y p q h l = tt
+  fork-follows w k r s off (Plain m) (Plain n) unset y p q h l = absurd h
+  fork-follows w k r s off (Plain m) (Plain n) (number x) unset p q h l = absurd l
+  fork-follows w k r s off (Plain m) (Plain n) (number x) (number y) p q h l = compare-follows w k r s off m n x y p q h l
+  fork-follows w k r s off (Plain m) (Plain n) (number x) (offset b o) p q h l = absurd l
+  fork-follows w k r s off (Plain m) (Plain n) (offset b o) y p q h l = absurd h
+  fork-follows w k r s off (Plain m) (Address b n) x y p q h l = tt
+  fork-follows w k r s off (Address b m) v x y p q h l = tt
 
   exit-follows : (v : Value) (x : Cell) → Stands v x → Follows (c .index) (apply a (reading v (exit v))) (exited x)
   unfolding reading isNever isMixed exit exited apply
@@ -319,7 +319,7 @@ module _ (a : Facts) (c : Config) (d : Describes a c) where
     unfolding effect free apply jumpedTo
     effect-follows (Alu w op r s) h = arithmetic-follows (role w op) (bits w) (wide w) op r _ _ _ _ (value-stands r) (operand-stands s h)
     effect-follows (Neg w r) h = reading-follows _ _ _ (calculate-follows (bits w) (wide w) operation.Neg r _ _ _ _ (value-stands r) (value-stands r))
-    effect-follows (Jump k r s off) h = reading-both-follows _ _ _ _ (fork-follows k r s off _ _ _ _ refl refl (value-stands r) (operand-stands s h))
+    effect-follows (Jump w k r s off) h = reading-both-follows _ _ _ _ (fork-follows w k r s off _ _ _ _ refl refl (value-stands r) (operand-stands s h))
     effect-follows (Always off) h =
         inr (omega arith, refl, record { registers = d .registers; stack-size = d .stack-size; stack-bytes = d .stack-bytes })
     effect-follows Exit h = exit-follows _ _ (value-stands 0)

@@ -12,6 +12,7 @@ use Rattle.word.specs.declared.Operation.the-variants.{Add}
 use Rattle.word.specs.declared.Operation.the-variants as operation
 use Rattle.word.specs.declared.Comparison.{Comparison}
 use Rattle.word.proofs.Bytes.{write-length}
+use Rattle.machine.specs.declared.instruction.Width.{Width}
 use Rattle.machine.specs.declared.instruction.Instruction.{Instruction}
 use Rattle.machine.specs.declared.instruction.Instruction.the-variants.{Alu, Neg, Jump, Always, Exit, Load, Store, NoInstruction}
 use Rattle.machine.specs.Machine.{bits, bytes}
@@ -86,13 +87,13 @@ module _ (c : Config) where
       go false = tt
   stored-keeps size off (offset Stack o) (offset q u) = tt
 
-  forked-keeps : (k : Comparison) (off : ℕ) (x y : Cell) → Keeps c (forked k c off x y)
+  forked-keeps : (w : Width) (k : Comparison) (off : ℕ) (x y : Cell) → Keeps c (forked w k c off x y)
   unfolding forked jumpedTo
-  forked-keeps k off unset y = tt
-  forked-keeps k off (number a) unset = tt
-  forked-keeps k off (number a) (number b) = refl
-  forked-keeps k off (number a) (offset q u) = tt
-  forked-keeps k off (offset p o) y = tt
+  forked-keeps w k off unset y = tt
+  forked-keeps w k off (number a) unset = tt
+  forked-keeps w k off (number a) (number b) = refl
+  forked-keeps w k off (number a) (offset q u) = tt
+  forked-keeps w k off (offset p o) y = tt
 
   exited-keeps : (x : Cell) → Keeps c (exited x)
   unfolding exited
@@ -104,7 +105,7 @@ module _ (c : Config) where
   unfolding free jumpedTo
   free-keeps rec (Alu w op d s) = worked-keeps (role w op) (bits w) op d _ _
   free-keeps rec (Neg w d) = calculated-keeps (bits w) operation.Neg d _ _
-  free-keeps rec (Jump k d s off) = forked-keeps k off _ _
+  free-keeps rec (Jump w k d s off) = forked-keeps w k off _ _
   free-keeps rec (Always off) = refl
   free-keeps rec Exit = exited-keeps (cellOf c 0)
   free-keeps rec (Load z d s off) = loaded-keeps rec (bytes z) d off _

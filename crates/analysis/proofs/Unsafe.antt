@@ -17,7 +17,7 @@ use Rattle.machine.specs.Instruction.{fields, only, lookup, withOperand, operat
 use Rattle.machine.specs.Machine.{World, Done, content, held, value, operandValue, put, jumped, bits, bytes, address, within, loaded, afterLoad, afterStore, effect, isNoInstruction, names10, isUnset, anyUnset, obey, step, next, runs, start, badProgram, badRecord, badStack, badAddress, overlap, refused, interpreted}
 use Rattle.analysis.specs.Safe.{Laid, Bytes, Answer, Safe}
 use Rattle.analysis.proofs.Theorem.{laid-not-refused}
-use Rattle.analysis.proofs.Programs.{eight, program, X1, X2, X3, K1, stores-r1}
+use Rattle.analysis.proofs.Programs.{eight, program, X1, X2, X3, K1, low-half-jump, stores-r1}
 
 record-good : (R : ℕ) → R ≤ 1024 → badRecord R ≡ false
 unfolding badRecord
@@ -194,3 +194,31 @@ k1-faults = refl
 pub k1-not-safe-with-71 : Safe (program K1) 71 → ⊥
 k1-not-safe-with-71 safe =
     never-faults (program K1) 71 safe full-byte full-byte-size full-byte-bytes (above (length full-byte) 0 (omega arith)) 9 (subst Faults (sym k1-faults) tt)
+
+-- ---- a probe that tests the low half of a number and uses all of it faults if the upper half is not 0, with the longest record too
+
+upper-bit : List ℕ
+upper-bit = 0 ∷ 0 ∷ 0 ∷ 0 ∷ 1 ∷ blank 1019
+
+upper-bit-bytes : Bytes upper-bit
+unfolding upper-bit
+upper-bit-bytes zero = omega arith
+upper-bit-bytes (suc zero) = omega arith
+upper-bit-bytes (suc (suc zero)) = omega arith
+upper-bit-bytes (suc (suc (suc zero))) = omega arith
+upper-bit-bytes (suc (suc (suc (suc zero)))) = omega arith
+upper-bit-bytes (suc (suc (suc (suc (suc i))))) = blank-bytes 1019 i
+
+upper-bit-size : length upper-bit ≡ 1024
+unfolding upper-bit blank
+upper-bit-size = refl
+
+low-half-jump-faults : let w = above (length upper-bit) 0 (omega arith) in
+    interpreted (program low-half-jump) upper-bit (w .P) (w .S) (w .before) 7 .outcome ≡ Fault BadAccess 3 3
+unfolding above upper-bit blank low-half-jump eight program cut extend shiftSigned alu moved compare readBytes writeBytes fields only lookup withOperand operations arithmetic comparisons jump loads storesOfImm storesOfSrc load storeOfImm storeOfSrc byClass meaning decode readsOperand readsDst reads writes content held value operandValue put jumped bits bytes address within loaded afterLoad afterStore effect isNoInstruction names10 isUnset anyUnset obey step next runs start badProgram badRecord badStack badAddress overlap refused interpreted
+low-half-jump-faults = refl
+
+pub low-half-jump-not-safe : Safe (program low-half-jump) 1024 → ⊥
+low-half-jump-not-safe safe =
+    never-faults (program low-half-jump) 1024 safe upper-bit upper-bit-size upper-bit-bytes (above (length upper-bit) 0 (omega arith)) 7
+    (subst Faults (sym low-half-jump-faults) tt)

@@ -24,7 +24,6 @@ use Rattle.number.specs.declared.Refined.{Refined}
 use Rattle.number.specs.declared.Refined.the-variants.{Excluded, Possible}
 use Rattle.number.specs.Sharpen.{exact, everything, loaded, joinedNumber}
 use Rattle.number.specs.Computed.{computed, fits}
-use Rattle.number.specs.Compare.{taken, notTaken, refined}
 use Rattle.analysis.specs.declared.Reason.the-variants.{ReadsUnset, Outside, LeaksAddress}
 use Rattle.analysis.specs.declared.Region.{Region}
 use Rattle.analysis.specs.declared.Region.the-variants.{Record, Stack}
@@ -34,7 +33,7 @@ use Rattle.analysis.specs.declared.Value.{Value}
 use Rattle.analysis.specs.declared.Value.the-variants.{Unusable, Plain, Address}
 use Rattle.analysis.specs.declared.Effect.the-variants.{Refuse, Put, Keep, Fork, Goto, Stop}
 use Rattle.analysis.specs.Values.{Facts, valueOf, operandOf, sameRegion, joinedGone, joinedValue, joinedValues, joinedFacts}
-use Rattle.analysis.specs.Effects.{isNever, isMixed, reading, readingBoth, put, role, calculate, sum, difference, arithmetic, limit, load, storeAt, store, fork, exit, effect}
+use Rattle.analysis.specs.Effects.{isNever, isMixed, reading, readingBoth, put, role, calculate, sum, difference, arithmetic, limit, load, storeAt, store, told, fork, exit, effect}
 use Rattle.analysis.specs.Judged.{having, along, Flow, flows, apply}
 
 -- ---- arithmetic
@@ -145,10 +144,10 @@ store-that-fits R i a z d off s o n e g f = rw (e, g, f) refl
 -- ---- jumps
 
 -- each way has exactly what the comparison tells of the two operands
-pub fork-on-numbers : (R i : ℕ) (a : Facts) (c : Comparison) (d : ℕ) (s : Operand) (off : ℕ) (x y : Number) → valueOf a d ≡ Plain x → operandOf a s ≡ Plain y
-    → effect R i a (Jump c d s off) ≡ Fork d s (refined c false x y) (refined c true x y) (i + 1 + off)
-unfolding effect readingBoth isNever isMixed fork refined
-fork-on-numbers R i a c d s off x y p q = rw (p, q) refl
+pub fork-on-numbers : (R i : ℕ) (a : Facts) (w : Width) (c : Comparison) (d : ℕ) (s : Operand) (off : ℕ) (x y : Number) → valueOf a d ≡ Plain x → operandOf a s ≡ Plain y
+    → effect R i a (Jump w c d s off) ≡ Fork d s (told w c false x y) (told w c true x y) (i + 1 + off)
+unfolding effect readingBoth isNever isMixed fork
+fork-on-numbers R i a w c d s off x y p q = rw (p, q) refl
 
 -- and an excluded way is not followed
 pub excluded-not-followed : (a : Facts) (d : ℕ) (s : Operand) → along a d s Excluded ≡ none

@@ -11,7 +11,8 @@ use Rattle.known_bits.specs.Formula.{low, sum, difference, digits, parity, upTo
 use Rattle.number.specs.Sharpen.{narrowed, stillUnknown, learnt, sharpened, just, exact, everything, loaded, joinedRange, joinedNumber}
 use Rattle.number.specs.Ranges.{straight, crossed, sumRange, differenceRange, productRange, quotientRange, sameQuotient, restRange, longest, leftRange, signedRightRange, ranged}
 use Rattle.number.specs.Computed.{block, modulo, second, computedRange, computed, fits}
-use Rattle.number.specs.Compare.{settled, bounds, orderedIn, ordered, exchanged, above, common, equalBy, equal, empty, without, apartFrom, unequal, resharpened, disjointBy, disjointOf, disjoint, overlappingOf, overlapping, turned, firsts, turnedBack, signedOrdered, signedAbove, taken, notTaken}
+use Rattle.number.specs.Compare.{settled, bounds, orderedIn, ordered, exchanged, above, common, equalBy, equal, empty, without, apartFrom, unequal, resharpened, disjointBy, disjointOf, disjoint, overlappingOf, overlapping, turned, firsts, turnedBack, signedOrdered, signedAbove, taken, notTaken, refined}
+use Rattle.number.specs.Halves.{unsigned, offset, compared, lowHalf, lowHalves, halves, halvesOfBits, halvesOfRange, withLow, whole, taken32, notTaken32, refined32}
 use Rattle.analysis.specs.Values.{valueOf, operandOf, startFacts, sameRegion, joinedGone, joinedValue, joinedValues, joinedFacts, meeting}
 use Rattle.analysis.specs.Effects.{isNever, isMixed, reading, readingBoth, put, role, calculate, limit, storeAt, store, fork, exit, effect}
 use Rattle.analysis.specs.Effects as effects
@@ -19,11 +20,11 @@ use Rattle.analysis.specs.Form.{instruction, offOf, goesBack, goesOut, m
 use Rattle.analysis.specs.Paths.{noTarget, aimed, reaching, connected}
 use Rattle.analysis.specs.Judged.{reasonNumber, pair, having, along, apply, nobody, arrive, send, andThen, distribute, visit, conclude, pass, orElse, formed, followed, onPaths, onForm, judged}
 use Rattle.analysis.specs.Judged as judgements
-use Rattle.analysis.proofs.Programs.{eight, program, K1, K2, K3, K4, K5, K6, K7, K8, X1, X2, X3, jset-240, byte-less-1, four-less-3, signed-15, low-half, stores-r1, leak-excluded, leak-possible, two-faults}
+use Rattle.analysis.proofs.Programs.{eight, program, K1, K2, K3, K4, K5, K6, K7, K8, X1, X2, X3, jset-240, byte-less-1, four-less-3, signed-15, low-half, low-half-jump, low-half-moved, K2-jump, leak-excluded-jump, stores-r1, leak-excluded, leak-possible, two-faults}
 
 -- the answer for a record of R bytes
 answer : List ℕ → ℕ → ℕ × ℕ
-unfolding eight program cut extend shiftSigned alu moved readBytes fields only lookup withOperand operations arithmetic comparisons jump loads storesOfImm storesOfSrc load storeOfImm storeOfSrc byClass meaning decode writes bits bytes isNoInstruction names10 badProgram badRecord low sum difference digits parity upTo fromBit among highestProduct productMask known product power quotient highestRest rest shiftedBy joined highestShifted leftMask signedRight shiftedUnknown single shifted formula calculated cleared met leadingZeros trailingZeros narrowed stillUnknown learnt sharpened just exact everything loaded joinedRange joinedNumber straight crossed sumRange differenceRange productRange quotientRange sameQuotient restRange longest leftRange signedRightRange ranged block modulo second computedRange computed fits settled bounds orderedIn ordered exchanged above common equalBy equal empty without apartFrom unequal resharpened disjointBy disjointOf disjoint overlappingOf overlapping turned firsts turnedBack signedOrdered signedAbove taken notTaken valueOf operandOf startFacts sameRegion joinedGone joinedValue joinedValues joinedFacts meeting isNever isMixed reading readingBoth put role calculate effects.sum effects.difference effects.arithmetic limit effects.load storeAt store fork exit effect instruction offOf goesBack goesOut mayBeLast goesOn failing noTarget aimed reaching connected reasonNumber pair having judgements.withOperand along apply nobody arrive send andThen distribute visit conclude pass orElse formed followed onPaths onForm judged
+unfolding eight program cut extend shiftSigned alu moved readBytes fields only lookup withOperand operations arithmetic comparisons jump loads storesOfImm storesOfSrc load storeOfImm storeOfSrc byClass meaning decode writes bits bytes isNoInstruction names10 badProgram badRecord low sum difference digits parity upTo fromBit among highestProduct productMask known product power quotient highestRest rest shiftedBy joined highestShifted leftMask signedRight shiftedUnknown single shifted formula calculated cleared met leadingZeros trailingZeros narrowed stillUnknown learnt sharpened just exact everything loaded joinedRange joinedNumber straight crossed sumRange differenceRange productRange quotientRange sameQuotient restRange longest leftRange signedRightRange ranged block modulo second computedRange computed fits settled bounds orderedIn ordered exchanged above common equalBy equal empty without apartFrom unequal resharpened disjointBy disjointOf disjoint overlappingOf overlapping turned firsts turnedBack signedOrdered signedAbove taken notTaken refined unsigned offset compared lowHalf lowHalves halves halvesOfBits halvesOfRange withLow whole taken32 notTaken32 refined32 valueOf operandOf startFacts sameRegion joinedGone joinedValue joinedValues joinedFacts meeting isNever isMixed reading readingBoth put role calculate effects.sum effects.difference effects.arithmetic limit effects.load storeAt store effects.told fork exit effect instruction offOf goesBack goesOut mayBeLast goesOn failing noTarget aimed reaching connected reasonNumber pair having judgements.withOperand along apply nobody arrive send andThen distribute visit conclude pass orElse formed followed onPaths onForm judged
 answer ns R = pair (judged (program ns) R .finding)
 
 K1-with-72 : answer K1 72 ≡ (0, 0)
@@ -125,6 +126,35 @@ low-half-with-8 = refl
 low-half-with-1024 : answer low-half 1024 ≡ (8, 4)
 unfolding answer low-half
 low-half-with-1024 = refl
+
+low-half-jump-with-8 : answer low-half-jump 8 ≡ (8, 3)
+unfolding answer low-half-jump
+low-half-jump-with-8 = refl
+
+low-half-jump-with-1024 : answer low-half-jump 1024 ≡ (8, 3)
+unfolding answer low-half-jump
+low-half-jump-with-1024 = refl
+
+low-half-moved-with-17 : answer low-half-moved 17 ≡ (0, 0)
+unfolding answer low-half-moved
+low-half-moved-with-17 = refl
+
+low-half-moved-with-16 : answer low-half-moved 16 ≡ (8, 4)
+unfolding answer low-half-moved
+low-half-moved-with-16 = refl
+
+K2-jump-with-12 : answer K2-jump 12 ≡ (0, 0)
+unfolding answer K2-jump
+K2-jump-with-12 = refl
+
+K2-jump-with-11 : answer K2-jump 11 ≡ (8, 3)
+unfolding answer K2-jump
+K2-jump-with-11 = refl
+
+-- a way that is excluded at 32 bits is not followed
+leak-excluded-jump-with-0 : answer leak-excluded-jump 0 ≡ (0, 0)
+unfolding answer leak-excluded-jump
+leak-excluded-jump-with-0 = refl
 
 stores-r1-with-0 : answer stores-r1 0 ≡ (9, 1)
 unfolding answer stores-r1

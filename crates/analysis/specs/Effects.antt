@@ -17,7 +17,9 @@ use Rattle.machine.specs.Machine.{bits, bytes}
 use Rattle.number.specs.declared.Number.{Number}
 use Rattle.number.specs.Sharpen.{exact, loaded}
 use Rattle.number.specs.Computed.{computed, fits}
-use Rattle.number.specs.Compare.{taken, notTaken}
+use Rattle.number.specs.declared.Refined.{Refined}
+use Rattle.number.specs.Compare.{refined}
+use Rattle.number.specs.Halves.{refined32}
 use Rattle.analysis.specs.declared.Reason.{Reason}
 use Rattle.analysis.specs.declared.Reason.the-variants.{NoCode, WritesR10, ReadsUnset, Outside, LeaksAddress}
 use Rattle.analysis.specs.declared.Region.{Region}
@@ -154,13 +156,18 @@ store size off x (Unusable h) = Refuse LeaksAddress
 
 -- ---- jumps
 
--- the way on, and the way taken to target; what either tells of both operands
-unfoldable pub fork : Comparison → ℕ → Operand → ℕ → Value → Value → Effect
-fork c d s target (Plain a) (Plain b) = Fork d s (notTaken c a b) (taken c a b) target
-fork c d s target (Plain a) (Address q b) = Refuse LeaksAddress
-fork c d s target (Plain a) (Unusable h) = Refuse LeaksAddress
-fork c d s target (Address p a) y = Refuse LeaksAddress
-fork c d s target (Unusable g) y = Refuse LeaksAddress
+-- what a way out tells of both operands: of the whole numbers, or of their low halves
+unfoldable pub told : Width → Comparison → Bool → Number → Number → Refined
+told Long c way a b = refined c way a b
+told Short c way a b = refined32 c way a b
+
+-- the way on, and the way taken to target
+unfoldable pub fork : Width → Comparison → ℕ → Operand → ℕ → Value → Value → Effect
+fork w c d s target (Plain a) (Plain b) = Fork d s (told w c false a b) (told w c true a b) target
+fork w c d s target (Plain a) (Address q b) = Refuse LeaksAddress
+fork w c d s target (Plain a) (Unusable h) = Refuse LeaksAddress
+fork w c d s target (Address p a) y = Refuse LeaksAddress
+fork w c d s target (Unusable g) y = Refuse LeaksAddress
 
 -- the verdict must be a plain number
 unfoldable pub exit : Value → Effect
@@ -172,7 +179,7 @@ exit (Unusable g) = Refuse LeaksAddress
 unfoldable pub effect : ℕ → ℕ → Facts → Instruction → Effect
 effect R i a (Alu w op d s) = arithmetic (role w op) (bits w) op d (valueOf a d) (operandOf a s)
 effect R i a (Neg w d) = reading (valueOf a d) (calculate (bits w) operation.Neg d (valueOf a d) (valueOf a d))
-effect R i a (Jump c d s off) = readingBoth (valueOf a d) (operandOf a s) (fork c d s (i + 1 + off) (valueOf a d) (operandOf a s))
+effect R i a (Jump w c d s off) = readingBoth (valueOf a d) (operandOf a s) (fork w c d s (i + 1 + off) (valueOf a d) (operandOf a s))
 effect R i a (Always off) = Goto (i + 1 + off)
 effect R i a Exit = reading (valueOf a 0) (exit (valueOf a 0))
 effect R i a (Load z d s off) = reading (valueOf a s) (load R (bytes z) d off (valueOf a s))

@@ -21,7 +21,7 @@ instruction program i = decode program (i * 8)
 
 -- the off of a jump; EXIT is no jump here
 unfoldable pub offOf : Instruction → Option ℕ
-offOf (Jump c d s off) = some off
+offOf (Jump w c d s off) = some off
 offOf (Always off) = some off
 offOf (Alu w op d s) = none
 offOf (Neg w d) = none
@@ -45,7 +45,7 @@ mayBeLast Exit = true
 mayBeLast (Always off) = true
 mayBeLast (Alu w op d s) = false
 mayBeLast (Neg w d) = false
-mayBeLast (Jump c d s off) = false
+mayBeLast (Jump w c d s off) = false
 mayBeLast (Load z d s off) = false
 mayBeLast (Store z d off s) = false
 mayBeLast NoInstruction = false

@@ -198,26 +198,26 @@ module _ (w : World) (regs : List ℕ) (live : ℕ) (stack : List ℕ) (pc op ds
 
   -- ---- jumps
 
-  pub jump-immediate : (k : ℕ) (comparison : Comparison) (b : Bool) (x : ℕ) → op ≡ k
-      → meant k dst src off imm ≡ only (eqb src 0) (Jump comparison dst (Immediate (extend 32 imm)) (extend 16 off))
-      → x ≡ extend 32 imm → b ≡ compare 64 comparison (getD regs dst 0) x
+  pub jump-immediate : (k : ℕ) (width : Width) (comparison : Comparison) (b : Bool) (x : ℕ) → op ≡ k
+      → meant k dst src off imm ≡ only (eqb src 0) (Jump width comparison dst (Immediate (extend 32 imm)) (extend 16 off))
+      → x ≡ extend 32 imm → b ≡ compare (bits width) comparison (getD regs dst 0) x
       → {r : Next} {regs′ stack′ : List ℕ}
       → Leads r regs′ stack′ (stateOf regs live stack pc) (guarded (eqb src 0) false (not (isSet live dst)) (goes (jumped b (stateOf regs live stack pc) (extend 16 off))))
       → Leads r regs′ stack′ (stateOf regs live stack pc) (obeyed w (stateOf regs live stack pc) op dst src off imm)
   unfolding reads readsOperand writes names10 anyUnset effect operandValue isNoInstruction
-  jump-immediate k comparison b x key shape x-is b-is =
-      means k (Jump comparison dst (Immediate (extend 32 imm)) (extend 16 off)) (eqb src 0) false (not (isSet live dst)) (goes (jumped b (stateOf regs live stack pc) (extend 16 off))) key shape refl (above-read dst) (λ h. unfit (above-nonzero src h))
+  jump-immediate k width comparison b x key shape x-is b-is =
+      means k (Jump width comparison dst (Immediate (extend 32 imm)) (extend 16 off)) (eqb src 0) false (not (isSet live dst)) (goes (jumped b (stateOf regs live stack pc) (extend 16 off))) key shape refl (above-read dst) (λ h. unfit (above-nonzero src h))
       (λ d. record { ten = refl; set = one-unset dst; does = λ e. rw (one-value dst e, ← x-is) (ap (λ (y : Bool). goes (jumped y (stateOf regs live stack pc) (extend 16 off))) b-is) })
 
-  pub jump-register : (k : ℕ) (comparison : Comparison) (b : Bool) → op ≡ k
-      → meant k dst src off imm ≡ only (eqb imm 0) (Jump comparison dst (Register src) (extend 16 off))
-      → b ≡ compare 64 comparison (getD regs dst 0) (getD regs src 0)
+  pub jump-register : (k : ℕ) (width : Width) (comparison : Comparison) (b : Bool) → op ≡ k
+      → meant k dst src off imm ≡ only (eqb imm 0) (Jump width comparison dst (Register src) (extend 16 off))
+      → b ≡ compare (bits width) comparison (getD regs dst 0) (getD regs src 0)
       → {r : Next} {regs′ stack′ : List ℕ}
       → Leads r regs′ stack′ (stateOf regs live stack pc) (guarded (eqb imm 0) false (not (isSet live dst) || not (isSet live src)) (goes (jumped b (stateOf regs live stack pc) (extend 16 off))))
       → Leads r regs′ stack′ (stateOf regs live stack pc) (obeyed w (stateOf regs live stack pc) op dst src off imm)
   unfolding reads readsOperand writes names10 anyUnset effect operandValue isNoInstruction
-  jump-register k comparison b key shape b-is =
-      means k (Jump comparison dst (Register src) (extend 16 off)) (eqb imm 0) false (not (isSet live dst) || not (isSet live src)) (goes (jumped b (stateOf regs live stack pc) (extend 16 off))) key shape refl above-dst-read above-src-read
+  jump-register k width comparison b key shape b-is =
+      means k (Jump width comparison dst (Register src) (extend 16 off)) (eqb imm 0) false (not (isSet live dst) || not (isSet live src)) (goes (jumped b (stateOf regs live stack pc) (extend 16 off))) key shape refl above-dst-read above-src-read
       (λ d. record { ten = refl; set = two-unset; does = λ e. rw (both-values e .0, both-values e .1) (ap (λ (y : Bool). goes (jumped y (stateOf regs live stack pc) (extend 16 off))) b-is) })
 
   pub always : (k : ℕ) → op ≡ k

@@ -79,7 +79,7 @@ pub some-instruction : (i : Instruction) → OneOf (0 ∷ 1 ∷ 2 ∷ 3 ∷ 4 �
 unfolding isNoInstruction
 some-instruction (Alu w op d s) h = refl
 some-instruction (Neg w d) h = refl
-some-instruction (Jump k d s off) h = refl
+some-instruction (Jump w k d s off) h = refl
 some-instruction (Always off) h = refl
 some-instruction Exit h = refl
 some-instruction (Load z d s off) h = refl
@@ -90,7 +90,7 @@ pub writes-no-register : (i : Instruction) → OneOf (2 ∷ 3 ∷ 4 ∷ 6 ∷ 7 
 unfolding writes names10
 writes-no-register (Alu w op d s) h = absurd (miss (2 ∷ 3 ∷ 4 ∷ 6 ∷ 7 ∷ []) 0 (tt {0}) h)
 writes-no-register (Neg w d) h = absurd (miss (2 ∷ 3 ∷ 4 ∷ 6 ∷ 7 ∷ []) 1 (tt {0}) h)
-writes-no-register (Jump k d s off) h = refl
+writes-no-register (Jump w k d s off) h = refl
 writes-no-register (Always off) h = refl
 writes-no-register Exit h = refl
 writes-no-register (Load z d s off) h = absurd (miss (2 ∷ 3 ∷ 4 ∷ 6 ∷ 7 ∷ []) 5 (tt {0}) h)
@@ -101,7 +101,7 @@ pub reads-no-register : (live : ℕ) (i : Instruction) → OneOf (3 ∷ 7 ∷ []
 unfolding reads unsetIn
 reads-no-register live (Alu w op d s) h = absurd (miss (3 ∷ 7 ∷ []) 0 (tt {0}) h)
 reads-no-register live (Neg w d) h = absurd (miss (3 ∷ 7 ∷ []) 1 (tt {0}) h)
-reads-no-register live (Jump k d s off) h = absurd (miss (3 ∷ 7 ∷ []) 2 (tt {0}) h)
+reads-no-register live (Jump w k d s off) h = absurd (miss (3 ∷ 7 ∷ []) 2 (tt {0}) h)
 reads-no-register live (Always off) h = refl
 reads-no-register live Exit h = absurd (miss (3 ∷ 7 ∷ []) 4 (tt {0}) h)
 reads-no-register live (Load z d s off) h = absurd (miss (3 ∷ 7 ∷ []) 5 (tt {0}) h)
@@ -131,7 +131,7 @@ misses : (w : World) (t : State) (i : Instruction) (c : Cause) → isNoInstructi
 unfolding effect isNoInstruction
 misses w t (Alu width op d s) c is e = cc
 misses w t (Neg width d) c is e = cc
-misses w t (Jump comparison d s off) c is e = cc
+misses w t (Jump width comparison d s off) c is e = cc
 misses w t (Always off) c is e = cc
 misses w t Exit c is e = cc
 misses w t (Load z d s off) c is e = load-misses t d (loaded w (t .stack) (address (value t s) off) z) c e

@@ -1,4 +1,4 @@
-// One instruction obeyed: a flat match over the 86 opcodes, which the compiler makes one jump table of.
+// One instruction obeyed: a flat match over the 108 opcodes, which the compiler makes one jump table of.
 // A register is read in the arm that wants it, so that no arm waits for what another one reads.
 ghost use mathlib.Core.Path.{_≡_};
 ghost use Prim.Native.Nat.{_<_};
@@ -46,6 +46,17 @@ use word::arithmetic64::or64;
 use word::arithmetic64::rsh64;
 use word::arithmetic64::sub64;
 use word::arithmetic64::xor64;
+use word::order32::eq32;
+use word::order32::ge32;
+use word::order32::gt32;
+use word::order32::le32;
+use word::order32::lt32;
+use word::order32::ne32;
+use word::order32::set32;
+use word::order32::sge32;
+use word::order32::sgt32;
+use word::order32::sle32;
+use word::order32::slt32;
 use word::order64::eq64;
 use word::order64::ge64;
 use word::order64::gt64;
@@ -156,6 +167,28 @@ pub fn obey(
         0xcd => jump_register(slt64(regs[i], regs[j]), dst, src, imm, off, pc, live),
         0xd5 => jump_immediate(sle64(regs[i], x), dst, src, off, pc, live),
         0xdd => jump_register(sle64(regs[i], regs[j]), dst, src, imm, off, pc, live),
+        0x16 => jump_immediate(eq32(regs[i], x), dst, src, off, pc, live),
+        0x1e => jump_register(eq32(regs[i], regs[j]), dst, src, imm, off, pc, live),
+        0x26 => jump_immediate(gt32(regs[i], x), dst, src, off, pc, live),
+        0x2e => jump_register(gt32(regs[i], regs[j]), dst, src, imm, off, pc, live),
+        0x36 => jump_immediate(ge32(regs[i], x), dst, src, off, pc, live),
+        0x3e => jump_register(ge32(regs[i], regs[j]), dst, src, imm, off, pc, live),
+        0x46 => jump_immediate(set32(regs[i], x), dst, src, off, pc, live),
+        0x4e => jump_register(set32(regs[i], regs[j]), dst, src, imm, off, pc, live),
+        0x56 => jump_immediate(ne32(regs[i], x), dst, src, off, pc, live),
+        0x5e => jump_register(ne32(regs[i], regs[j]), dst, src, imm, off, pc, live),
+        0x66 => jump_immediate(sgt32(regs[i], x), dst, src, off, pc, live),
+        0x6e => jump_register(sgt32(regs[i], regs[j]), dst, src, imm, off, pc, live),
+        0x76 => jump_immediate(sge32(regs[i], x), dst, src, off, pc, live),
+        0x7e => jump_register(sge32(regs[i], regs[j]), dst, src, imm, off, pc, live),
+        0xa6 => jump_immediate(lt32(regs[i], x), dst, src, off, pc, live),
+        0xae => jump_register(lt32(regs[i], regs[j]), dst, src, imm, off, pc, live),
+        0xb6 => jump_immediate(le32(regs[i], x), dst, src, off, pc, live),
+        0xbe => jump_register(le32(regs[i], regs[j]), dst, src, imm, off, pc, live),
+        0xc6 => jump_immediate(slt32(regs[i], x), dst, src, off, pc, live),
+        0xce => jump_register(slt32(regs[i], regs[j]), dst, src, imm, off, pc, live),
+        0xd6 => jump_immediate(sle32(regs[i], x), dst, src, off, pc, live),
+        0xde => jump_register(sle32(regs[i], regs[j]), dst, src, imm, off, pc, live),
         0x71 => load_into(
             rec,
             p,

@@ -85,6 +85,7 @@ fn reads_unset(live: u64, ins: Instruction) -> bool
         } => dst_unset(live, operation, dst) | operand_unset(live, operand),
         Instruction::Neg { width: _, dst } => is_unset(live, dst),
         Instruction::Jump {
+            width: _,
             comparison: _,
             dst,
             operand,

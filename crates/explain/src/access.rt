@@ -57,12 +57,16 @@ fn write_reach(out: &mut [u8], at: usize, hi: u64, count: u64) -> usize
     write_decimal(out, a, hi + count)
 }
 
+// An index that may reach as far was not tested, or only its low half was.
 fn write_remedy(out: &mut [u8], at: usize, lo: u64, hi: u64) -> usize
     requires { ⌜ at ≤ length (now out) ⌝ }
     ensures { λ r. ⌜ (at ≤ r) × (r ≤ length (now (out .entry))) ⌝ }
 {
     if lo == hi {
         return write_help(out, at, b"use an offset that lies inside");
+    }
+    if 4294967296 <= hi {
+        return write_help(out, at, b"test all 64 bits of the index first, or mask it");
     }
     write_help(out, at, b"test the index first, or mask it")
 }

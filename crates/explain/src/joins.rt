@@ -53,6 +53,7 @@ fn jumps_to(program: &[u8], j: usize, i: usize) -> bool {
     let instruction = instruction_at(program, j);
     match instruction {
         Instruction::Jump {
+            width: _,
             comparison: _,
             dst: _,
             operand: _,

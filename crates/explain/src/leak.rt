@@ -80,6 +80,7 @@ fn is_address(fault: Fault) -> bool {
 fn use_of(instruction: Instruction) -> Use {
     match instruction {
         Instruction::Jump {
+            width: _,
             comparison: _,
             dst: _,
             operand: _,

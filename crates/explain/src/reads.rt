@@ -66,6 +66,7 @@ pub fn reads_of(ins: Instruction) -> Reads
         } => of_alu(operation, dst, operand),
         Instruction::Neg { width: _, dst } => Reads::One(dst),
         Instruction::Jump {
+            width: _,
             comparison: _,
             dst,
             operand,

@@ -88,6 +88,7 @@ fn write_way_out(out: &mut [u8], at: usize, instruction: Instruction, n: usize, 
 {
     match instruction {
         Instruction::Jump {
+            width: _,
             comparison: _,
             dst: _,
             operand: _,

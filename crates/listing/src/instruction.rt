@@ -109,6 +109,7 @@ fn write_goto(out: &mut [u8], at: usize, off: u64) -> usize
 fn write_branch(
     out: &mut [u8],
     at: usize,
+    prefix: u8,
     comparison: Comparison,
     dst: u64,
     operand: Operand,
@@ -118,9 +119,9 @@ fn write_branch(
     ensures { λ r. ⌜ (at ≤ r) × (r ≤ length (now (out .entry))) ⌝ }
 {
     let a = write_text(out, at, b"if ");
-    let b = write_register(out, a, b'r', dst);
+    let b = write_register(out, a, prefix, dst);
     let c = write_comparison(out, b, comparison);
-    let d = write_operand(out, c, b'r', operand);
+    let d = write_operand(out, c, prefix, operand);
     let e = write_letter(out, d, b' ');
     write_goto(out, e, off)
 }
@@ -194,11 +195,12 @@ pub fn write_instruction(out: &mut [u8], at: usize, instruction: Instruction) ->
             write_alu(out, at, prefix, Operation::Neg, dst, Operand::Register(dst))
         }
         Instruction::Jump {
+            width,
             comparison,
             dst,
             operand,
             off,
-        } => write_branch(out, at, comparison, dst, operand, off),
+        } => write_branch(out, at, letter(width), comparison, dst, operand, off),
         Instruction::Always { off } => write_goto(out, at, off),
         Instruction::Exit => write_text(out, at, b"exit"),
         Instruction::Load {

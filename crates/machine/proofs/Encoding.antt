@@ -18,7 +18,7 @@ use Rattle.machine.specs.Instruction.{Fields, fields, meaning, decode}
 use Rattle.machine.specs.Machine.{isNoInstruction}
 use Rattle.machine.proofs.Proper.{sizeCode, immOf, unmeaning, fields-equal, Proper}
 use Rattle.machine.proofs.Meaning.{unmeaning-meaning, meaning-proper}
-use Rattle.machine.proofs.Unmeaning.{operation-found, comparison-found, srcOf-small, isRegister-small, class-small, meaning-unmeaning}
+use Rattle.machine.proofs.Unmeaning.{operation-found, comparison-found, srcOf-small, isRegister-small, class-small, jumpClass-small, meaning-unmeaning}
 
 -- ---- fields and their eight bytes
 
@@ -98,8 +98,8 @@ unfolding unmeaning cut
 unmeaning-fits (Alu w op d s) p =
     omega (arith, operation-found op (λ _. NoInstruction) (p .0) .1, isRegister-small s, class-small w, srcOf-small s (p .2), immOf-small s)
 unmeaning-fits (Neg w d) p = omega (arith, class-small w)
-unmeaning-fits (Jump c d s off) p =
-    omega (arith, comparison-found c (λ _. NoInstruction) .2, isRegister-small s, srcOf-small s (p .1), immOf-small s)
+unmeaning-fits (Jump w c d s off) p =
+    omega (arith, comparison-found c (λ _. NoInstruction) .2, isRegister-small s, jumpClass-small w, srcOf-small s (p .1), immOf-small s)
 unmeaning-fits (Always off) p = omega arith
 unmeaning-fits Exit p = omega arith
 unmeaning-fits (Load z d s off) p = omega (arith, sizeCode-small z)

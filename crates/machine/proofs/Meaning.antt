@@ -18,7 +18,7 @@ use Rattle.machine.specs.declared.instruction.Instruction.{Instruction}
 use Rattle.machine.specs.declared.instruction.Instruction.the-variants.{NoInstruction}
 use Rattle.machine.specs.Instruction.{Fields, only, Line, _means_, lookup, withOperand, operations, arithmetic, comparisons, jump, loads, storesOfImm, storesOfSrc, load, storeOfImm, storeOfSrc, byClass, meaning}
 use Rattle.machine.specs.Machine.{isNoInstruction}
-use Rattle.machine.proofs.Proper.{operationCode, comparisonCode, sizeCode, class, isRegister, srcOf, immOf, unmeaning, fields-equal, ProperOperand, Proper, imm-back, off-back, imm-extended, off-extended}
+use Rattle.machine.proofs.Proper.{operationCode, comparisonCode, sizeCode, class, jumpClass, isRegister, srcOf, immOf, unmeaning, fields-equal, ProperOperand, Proper, imm-back, off-back, imm-extended, off-extended}
 
 -- ---- what a table gives, what a test lets through
 
@@ -102,9 +102,9 @@ module _ (f : Fields) (d : f .dst ≤ 10) (s : f .src ≤ 10) where
       (λ op o. operand-back f _ s
       (λ x b xs xi px. inr (fields-equal _ (trimmed f) (omega arith) refl xs (omega (arith, eqb-true)) xi, (λ neg. eqb-false _ _ n (o ∙ ap operationCode neg), d, px))))))
 
-  jump-back : f .opcode % 8 ≡ 5 → Back f (jump f)
+  jump-back : (w : Width) → f .opcode % 8 ≡ jumpClass w → Back f (jump w f)
   unfolding jump unmeaning trimmed cut
-  jump-back c =
+  jump-back w c =
       cond-back f (eqb (f .opcode) 0x05) _ _
       (λ n. only-back f _ _
       (λ e. let (ed, es, ei) = zeros (f .dst) (f .src) (f .imm) e in
@@ -140,15 +140,16 @@ module _ (f : Fields) (d : f .dst ≤ 10) (s : f .src ≤ 10) where
       (λ e. inr (fields-equal _ (trimmed f) (omega arith) refl refl (off-back (f .off)) (omega (arith, eqb-true)), (d, s, off-extended (f .off)))))
 
   byClass-back : Back f (byClass f)
-  unfolding byClass class
+  unfolding byClass class jumpClass
   byClass-back =
       cond-back f (eqb (f .opcode % 8) 7) _ _ (λ c. arithmetic-back Long (eqb-true _ _ c))
       (λ _. cond-back f (eqb (f .opcode % 8) 4) _ _ (λ c. arithmetic-back Short (eqb-true _ _ c))
-      (λ _. cond-back f (eqb (f .opcode % 8) 5) _ _ (λ c. jump-back (eqb-true _ _ c))
+      (λ _. cond-back f (eqb (f .opcode % 8) 5) _ _ (λ c. jump-back Long (eqb-true _ _ c))
+      (λ _. cond-back f (eqb (f .opcode % 8) 6) _ _ (λ c. jump-back Short (eqb-true _ _ c))
       (λ _. cond-back f (eqb (f .opcode % 8) 1) _ _ (λ _. load-back)
       (λ _. cond-back f (eqb (f .opcode % 8) 2) _ _ (λ _. storeOfImm-back)
       (λ _. cond-back f (eqb (f .opcode % 8) 3) _ _ (λ _. storeOfSrc-back)
-      (λ _. inl refl))))))
+      (λ _. inl refl)))))))
 
 meaning-back : (f : Fields) → Back f (meaning f)
 unfolding meaning

@@ -1,4 +1,4 @@
--- Which opcodes decode: 86 of the 256, counted, and no other decodes whatever stands in the other seven bytes.
+-- Which opcodes decode: 108 of the 256, counted, and no other decodes whatever stands in the other seven bytes.
 -- Assumes nothing.
 use mathlib.Core.Path.{_≡_, refl, sym, ap, _∙_}
 use mathlib.Core.Bool.{Bool, true, false, not, cond, _&&_, _||_}
@@ -38,7 +38,7 @@ pub opcodes-arithmetic : opcodes-of (λ class. eqb class 4 || eqb class 7) ≡ 5
 unfolding opcodes-of
 opcodes-arithmetic = refl
 
-pub opcodes-jump : opcodes-of (λ class. eqb class 5) ≡ 24
+pub opcodes-jump : opcodes-of (λ class. eqb class 5 || eqb class 6) ≡ 46
 unfolding opcodes-of
 opcodes-jump = refl
 
@@ -46,7 +46,7 @@ pub opcodes-memory : opcodes-of (λ class. leb 1 class && leb class 3) ≡ 12
 unfolding opcodes-of
 opcodes-memory = refl
 
-pub opcodes-all : opcodes-of (λ class. true) ≡ 86
+pub opcodes-all : opcodes-of (λ class. true) ≡ 108
 unfolding opcodes-of
 opcodes-all = refl
 
@@ -60,7 +60,7 @@ blank-operand (Register r) = Register 0
 blank : Instruction → Instruction
 blank (Alu w op d s) = Alu w op 0 (blank-operand s)
 blank (Neg w d) = Neg w 0
-blank (Jump c d s off) = Jump c 0 (blank-operand s) 0
+blank (Jump w c d s off) = Jump w c 0 (blank-operand s) 0
 blank (Always off) = Always 0
 blank Exit = Exit
 blank (Load z d s off) = Load z 0 0 0
@@ -75,8 +75,8 @@ unfolding unmeaning blank blank-operand fields-of-opcode isRegister srcOf immOf 
 blank-fields (Alu w op d (Immediate n)) = refl
 blank-fields (Alu w op d (Register r)) = refl
 blank-fields (Neg w d) = refl
-blank-fields (Jump c d (Immediate n) off) = refl
-blank-fields (Jump c d (Register r) off) = refl
+blank-fields (Jump w c d (Immediate n) off) = refl
+blank-fields (Jump w c d (Register r) off) = refl
 blank-fields (Always off) = refl
 blank-fields Exit = refl
 blank-fields (Load z d s off) = refl
@@ -93,7 +93,7 @@ blank-proper : (i : Instruction) → Proper i → Proper (blank i)
 unfolding blank extend cut
 blank-proper (Alu w op d s) p = (p .0, omega arith, blank-operand-proper s)
 blank-proper (Neg w d) p = omega arith
-blank-proper (Jump c d s off) p = (omega arith, blank-operand-proper s, refl)
+blank-proper (Jump w c d s off) p = (omega arith, blank-operand-proper s, refl)
 blank-proper (Always off) p = refl
 blank-proper Exit p = tt
 blank-proper (Load z d s off) p = (omega arith, omega arith, refl)
@@ -104,7 +104,7 @@ proper-instruction : (i : Instruction) → Proper i → isNoInstruction i ≡ fa
 unfolding isNoInstruction
 proper-instruction (Alu w op d s) p = refl
 proper-instruction (Neg w d) p = refl
-proper-instruction (Jump c d s off) p = refl
+proper-instruction (Jump w c d s off) p = refl
 proper-instruction (Always off) p = refl
 proper-instruction Exit p = refl
 proper-instruction (Load z d s off) p = refl
@@ -118,7 +118,7 @@ opcode-suffices f t =
     let same : unmeaning (blank i) ≡ fields-of-opcode (f .opcode) = blank-fields i ∙ ap fields-of-opcode (opcode-kept f t) in
     ap isNoInstruction (ap meaning (sym same) ∙ meaning-unmeaning (blank i) (blank-proper i proper)) ∙ proper-instruction (blank i) (blank-proper i proper)
 
--- so these 86 are the opcodes that decode at all
+-- so these 108 are the opcodes that decode at all
 pub only-these-decode : (b : List ℕ) → isNoInstruction (decode b 0) ≡ false → opcode-decodes (getD b 0 0) ≡ true
 unfolding opcode-decodes decode fields readBytes fields-of-opcode
 only-these-decode b t = ap not (opcode-suffices (fields b 0) t)

@@ -63,7 +63,11 @@ unfoldable pub class : Width → ℕ
 class Long = 7
 class Short = 4
 
--- 1 where the operand is a register: bit 3 of an opcode of class 4, 5 or 7, and what tells STX from ST
+unfoldable pub jumpClass : Width → ℕ
+jumpClass Long = 5
+jumpClass Short = 6
+
+-- 1 where the operand is a register: bit 3 of an opcode of class 4 to 7, and what tells STX from ST
 unfoldable pub isRegister : Operand → ℕ
 isRegister (Immediate n) = 0
 isRegister (Register r) = 1
@@ -80,8 +84,8 @@ unfoldable pub unmeaning : Instruction → Fields
 unmeaning (Alu w op d s) =
     record { opcode = 16 * operationCode op + 8 * isRegister s + class w; dst = d; src = srcOf s; off = 0; imm = immOf s }
 unmeaning (Neg w d) = record { opcode = 16 * 8 + class w; dst = d; src = 0; off = 0; imm = 0 }
-unmeaning (Jump c d s off) =
-    record { opcode = 16 * comparisonCode c + 8 * isRegister s + 5; dst = d; src = srcOf s; off = cut 16 off; imm = immOf s }
+unmeaning (Jump w c d s off) =
+    record { opcode = 16 * comparisonCode c + 8 * isRegister s + jumpClass w; dst = d; src = srcOf s; off = cut 16 off; imm = immOf s }
 unmeaning (Always off) = record { opcode = 0x05; dst = 0; src = 0; off = cut 16 off; imm = 0 }
 unmeaning Exit = record { opcode = 0x95; dst = 0; src = 0; off = 0; imm = 0 }
 unmeaning (Load z d s off) = record { opcode = sizeCode z + 1; dst = d; src = s; off = cut 16 off; imm = 0 }
@@ -106,7 +110,7 @@ ProperOperand (Register r) = r ≤ 10
 abbrev pub Proper : Instruction → Type 0
 Proper (Alu w op d s) = (op ≢ operation.Neg) × (d ≤ 10) × ProperOperand s
 Proper (Neg w d) = d ≤ 10
-Proper (Jump c d s off) = (d ≤ 10) × ProperOperand s × Extended 16 off
+Proper (Jump w c d s off) = (d ≤ 10) × ProperOperand s × Extended 16 off
 Proper (Always off) = Extended 16 off
 Proper Exit = Unit {0}
 Proper (Load z d s off) = (d ≤ 10) × (s ≤ 10) × Extended 16 off

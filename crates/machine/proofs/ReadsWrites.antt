@@ -142,8 +142,8 @@ module _ (w : World) (s t : State) (alike : Alike s t) where
       (dst-same s t (bits b) op d (operandValue s o) (λ r m. a r (Memᴰ·append-left (readsOperand o) m))
       ∙ ap (alu (bits b) op (value t d)) (operand-same s t o (λ r m. a r (Memᴰ·append-right (readsDst op d) m))))
   effect-same (Neg b d) a = put-same d _ _ (rw (value-same s t d (a d first)))
-  effect-same (Jump c d o off) a =
-      jumped-same _ _ off (ap₂ (compare 64 c) (value-same s t d (a d first)) (operand-same s t o (λ r m. a r (List·Memᴰ·tail m))))
+  effect-same (Jump b c d o off) a =
+      jumped-same _ _ off (ap₂ (compare (bits b) c) (value-same s t d (a d first)) (operand-same s t o (λ r m. a r (List·Memᴰ·tail m))))
   effect-same (Always off) a = jumped-same true true off refl
   effect-same Exit a = value-same s t 0 (a 0 first)
   effect-same (Load z d r off) a =
@@ -189,7 +189,7 @@ effect-keeps : (w : World) (t : State) (i : Instruction) → Keeps (writes i) t 
 unfolding Keeps effect writes content jumped afterStore
 effect-keeps w t (Alu b op d o) = put-keeps t d _
 effect-keeps w t (Neg b d) = put-keeps t d _
-effect-keeps w t (Jump c d o off) = (refl, λ r n. refl)
+effect-keeps w t (Jump b c d o off) = (refl, λ r n. refl)
 effect-keeps w t (Always off) = (refl, λ r n. refl)
 effect-keeps w t Exit = tt
 effect-keeps w t (Load z d r off) = load-keeps t d _

@@ -20,7 +20,7 @@ use Rattle.machine.specs.declared.instruction.Operand.the-variants.{Imme
 use Rattle.machine.specs.declared.instruction.Instruction.{Instruction}
 use Rattle.machine.specs.declared.instruction.Instruction.the-variants.{Alu, Neg, Jump, Always, Exit, Load, Store, NoInstruction}
 use Rattle.machine.specs.Instruction.{Fields, only, lookup, withOperand, operations, arithmetic, comparisons, jump, loads, storesOfImm, storesOfSrc, load, storeOfImm, storeOfSrc, byClass, meaning}
-use Rattle.machine.proofs.Proper.{operationCode, comparisonCode, sizeCode, class, isRegister, srcOf, immOf, unmeaning, Extended, ProperOperand, Proper, extend-cut}
+use Rattle.machine.proofs.Proper.{operationCode, comparisonCode, sizeCode, class, jumpClass, isRegister, srcOf, immOf, unmeaning, Extended, ProperOperand, Proper, extend-cut}
 
 -- ---- each table has a line for what the way back gives a code
 
@@ -95,6 +95,11 @@ unfolding class
 class-small Long = omega arith
 class-small Short = omega arith
 
+pub jumpClass-small : (w : Width) → jumpClass w < 8
+unfolding jumpClass
+jumpClass-small Long = omega arith
+jumpClass-small Short = omega arith
+
 registers-pass : (f : Fields) → f .dst ≤ 10 → f .src ≤ 10 → meaning f ≡ byClass f
 unfolding meaning only
 registers-pass f d s = simp (le-leb _ _ d, le-leb _ _ s)
@@ -109,6 +114,11 @@ unfolding byClass class
 class-found Long f c = simp c
 class-found Short f c = simp c
 
+jumpClass-found : (w : Width) (f : Fields) → f .opcode % 8 ≡ jumpClass w → byClass f ≡ jump w f
+unfolding byClass jumpClass
+jumpClass-found Long f c = simp c
+jumpClass-found Short f c = simp c
+
 module _ (f : Fields) (s : Operand) (b : isRegister s ≡ f .opcode / 8 % 2) (e : srcOf s ≡ f .src) (v : immOf s ≡ f .imm) (p : ProperOperand s) where
   arithmetic-found : (w : Width) (op : Operation) → op ≢ operation.Neg → f .off ≡ 0 → f .opcode / 16 ≡ operationCode op → arithmetic w f ≡ Alu w op (f .dst) s
   unfolding arithmetic only
@@ -116,13 +126,13 @@ module _ (f : Fields) (s : Operand) (b : isRegister s ≡ f .opcode / 8 % 2) (e 
       let (ne, _, found) = operation-found op (λ op. withOperand f (λ s. Alu w op (f .dst) s)) n in
       simp (z, o, ne-eqb _ _ ne, found) (operand-found f s (λ s. Alu w op (f .dst) s) b e v p)
 
-  jump-found : (c : Comparison) → f .opcode / 16 ≡ comparisonCode c → f .opcode % 8 ≡ 5 → byClass f ≡ Jump c (f .dst) s (extend 16 (f .off))
-  unfolding byClass jump only
-  jump-found c o k =
-      let (not-ja, not-exit, _, found) = comparison-found c (λ c. withOperand f (λ s. Jump c (f .dst) s (extend 16 (f .off)))) in
+  jump-found : (w : Width) (c : Comparison) → f .opcode / 16 ≡ comparisonCode c → jump w f ≡ Jump w c (f .dst) s (extend 16 (f .off))
+  unfolding jump only
+  jump-found w c o =
+      let (not-ja, not-exit, _, found) = comparison-found c (λ c. withOperand f (λ s. Jump w c (f .dst) s (extend 16 (f .off)))) in
       let ja : f .opcode ≢ 0x05 = omega arith in
       let exit : f .opcode ≢ 0x95 = omega arith in
-      simp (k, o, ne-eqb _ _ ja, ne-eqb _ _ exit, found) (operand-found f s (λ s. Jump c (f .dst) s (extend 16 (f .off))) b e v p)
+      simp (o, ne-eqb _ _ ja, ne-eqb _ _ exit, found) (operand-found f s (λ s. Jump w c (f .dst) s (extend 16 (f .off))) b e v p)
 
 neg-found : (w : Width) (d : ℕ) → byClass (unmeaning (Neg w d)) ≡ Neg w d
 unfolding byClass unmeaning class arithmetic only
@@ -147,12 +157,14 @@ meaning-unmeaning (Alu w op d s) p =
     ∙ class-found w f (omega arith)
     ∙ arithmetic-found f s (omega arith) refl refl (p .2) w op (p .0) refl (omega arith)
 meaning-unmeaning (Neg w d) p = registers-pass (unmeaning (Neg w d)) p (omega arith) ∙ neg-found w d
-meaning-unmeaning (Jump c d s off) p =
-    let f = unmeaning (Jump c d s off) in
+meaning-unmeaning (Jump w c d s off) p =
+    let f = unmeaning (Jump w c d s off) in
     let small = isRegister-small s in
+    let class-of = jumpClass-small w in
     registers-pass f (p .0) (srcOf-small s (p .1))
-    ∙ jump-found f s (omega arith) refl refl (p .1) c (omega arith) (omega arith)
-    ∙ ap (Jump c d s) (extended-back 16 off (p .2))
+    ∙ jumpClass-found w f (omega arith)
+    ∙ jump-found f s (omega arith) refl refl (p .1) w c (omega arith)
+    ∙ ap (Jump w c d s) (extended-back 16 off (p .2))
 meaning-unmeaning (Always off) p = always-found off ∙ ap Always (extended-back 16 off p)
 meaning-unmeaning Exit p = exit-found
 meaning-unmeaning (Load z d s off) p =

@@ -177,6 +177,24 @@ jump-before-0 : outcome (0x0500feff00000000 ∷ []) [] ≡ Fault OffEnd (2 ^ 64 
 unfolding outcome
 jump-before-0 = refl
 
+-- r2 = 2^32 + 5; "if w2 == 5" is taken, "if r2 == 5" is not
+low-half-equal : outcome (0xb702000001000000 ∷ 0x6702000020000000 ∷ 0x0702000005000000 ∷ 0xb700000001000000 ∷ 0x1602010005000000 ∷ 0xb700000000000000 ∷ 0x9500000000000000 ∷ []) [] ≡ Verdict 1 6
+unfolding outcome
+low-half-equal = refl
+
+whole-unequal : outcome (0xb702000001000000 ∷ 0x6702000020000000 ∷ 0x0702000005000000 ∷ 0xb700000001000000 ∷ 0x1502010005000000 ∷ 0xb700000000000000 ∷ 0x9500000000000000 ∷ []) [] ≡ Verdict 0 7
+unfolding outcome
+whole-unequal = refl
+
+-- r2 = 2^31; "if w2 s< 0" is taken, "if r2 s< 0" is not
+low-half-negative : outcome (0xb402000000000080 ∷ 0xb700000001000000 ∷ 0xc602010000000000 ∷ 0xb700000000000000 ∷ 0x9500000000000000 ∷ []) [] ≡ Verdict 1 4
+unfolding outcome
+low-half-negative = refl
+
+whole-not-negative : outcome (0xb402000000000080 ∷ 0xb700000001000000 ∷ 0xc502010000000000 ∷ 0xb700000000000000 ∷ 0x9500000000000000 ∷ []) [] ≡ Verdict 0 5
+unfolding outcome
+whole-not-negative = refl
+
 -- ---- no instruction, though close to one
 
 meant : ℕ → Instruction
@@ -194,6 +212,15 @@ r11 = refl
 off-in-mov : meant 0xbf10080000000000 ≡ NoInstruction
 unfolding meant
 off-in-mov = refl
+
+-- JA and EXIT are of class 5 alone
+ja-in-class-6 : meant 0x0600000000000000 ≡ NoInstruction
+unfolding meant
+ja-in-class-6 = refl
+
+exit-in-class-6 : meant 0x9600000000000000 ≡ NoInstruction
+unfolding meant
+exit-in-class-6 = refl
 
 neg-with-bit-3 : meant 0x8f00000000000000 ≡ NoInstruction
 unfolding meant

@@ -71,21 +71,21 @@ arithmetic w f =
     (only (eqb (f .opcode / 8 % 2) 0 && eqb (f .src) 0 && eqb (f .imm) 0) (Neg w (f .dst)))
     (lookup (f .opcode / 16) operations (λ operation. withOperand f (λ operand. Alu w operation (f .dst) operand))))
 
--- ---- section 3: jumps, class 5; the high four bits name the comparison
+-- ---- section 3: jumps, class 5 on 64 bits and class 6 on the low 32 bits; the high four bits name the comparison
 
 unfoldable pub comparisons : List (Line Comparison)
 comparisons =
     (1 means Eq) ∷ (2 means Gt) ∷ (3 means Ge) ∷ (4 means Set) ∷ (5 means Ne) ∷ (6 means Sgt) ∷ (7 means Sge) ∷ (10 means Lt)
     ∷ (11 means Le) ∷ (12 means Slt) ∷ (13 means Sle) ∷ []
 
--- JA is 0x05 and EXIT 0x95: both have bit 3 clear and use neither register nor imm, and EXIT no off
-unfoldable pub jump : Fields → Instruction
-jump f =
+-- JA is 0x05 and EXIT 0x95, both of class 5: they have bit 3 clear and use neither register nor imm, and EXIT no off
+unfoldable pub jump : Width → Fields → Instruction
+jump w f =
     cond (eqb (f .opcode) 0x05)
     (only (eqb (f .dst) 0 && eqb (f .src) 0 && eqb (f .imm) 0) (Always (extend 16 (f .off))))
     (cond (eqb (f .opcode) 0x95)
     (only (eqb (f .dst) 0 && eqb (f .src) 0 && eqb (f .imm) 0 && eqb (f .off) 0) Exit)
-    (lookup (f .opcode / 16) comparisons (λ comparison. withOperand f (λ operand. Jump comparison (f .dst) operand (extend 16 (f .off))))))
+    (lookup (f .opcode / 16) comparisons (λ comparison. withOperand f (λ operand. Jump w comparison (f .dst) operand (extend 16 (f .off))))))
 
 -- ---- section 4: memory, classes 1, 2 and 3; the whole opcode names the size
 
@@ -119,11 +119,12 @@ unfoldable pub byClass : Fields → Instruction
 byClass f =
     cond (eqb (f .opcode % 8) 7) (arithmetic Long f)
     (cond (eqb (f .opcode % 8) 4) (arithmetic Short f)
-    (cond (eqb (f .opcode % 8) 5) (jump f)
+    (cond (eqb (f .opcode % 8) 5) (jump Long f)
+    (cond (eqb (f .opcode % 8) 6) (jump Short f)
     (cond (eqb (f .opcode % 8) 1) (load f)
     (cond (eqb (f .opcode % 8) 2) (storeOfImm f)
     (cond (eqb (f .opcode % 8) 3) (storeOfSrc f)
-    NoInstruction)))))
+    NoInstruction))))))
 
 unfoldable pub meaning : Fields → Instruction
 meaning f = only (leb (f .dst) 10 && leb (f .src) 10) (byClass f)
@@ -158,7 +159,7 @@ readsDst Arsh d = d ∷ []
 unfoldable pub reads : Instruction → List ℕ
 reads (Alu w op d s) = readsDst op d ++ readsOperand s
 reads (Neg w d) = d ∷ []
-reads (Jump c d s off) = d ∷ readsOperand s
+reads (Jump w c d s off) = d ∷ readsOperand s
 reads (Always off) = []
 reads Exit = 0 ∷ []
 reads (Load z d s off) = s ∷ []
@@ -168,7 +169,7 @@ reads NoInstruction = []
 unfoldable pub writes : Instruction → List ℕ
 writes (Alu w op d s) = d ∷ []
 writes (Neg w d) = d ∷ []
-writes (Jump c d s off) = []
+writes (Jump w c d s off) = []
 writes (Always off) = []
 writes Exit = []
 writes (Load z d s off) = d ∷ []

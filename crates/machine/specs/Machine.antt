@@ -113,7 +113,7 @@ afterStore w t a size v =
 unfoldable pub effect : World → State → Instruction → After
 effect w t (Alu width op dst s) = goes (put t dst (alu (bits width) op (value t dst) (operandValue t s)))
 effect w t (Neg width dst) = goes (put t dst (alu (bits width) operation.Neg (value t dst) 0))
-effect w t (Jump comparison dst s off) = goes (jumped (compare 64 comparison (value t dst) (operandValue t s)) t off)
+effect w t (Jump width comparison dst s off) = goes (jumped (compare (bits width) comparison (value t dst) (operandValue t s)) t off)
 effect w t (Always off) = goes (jumped true t off)
 effect w t Exit = ends (value t 0)
 effect w t (Load size dst src off) = afterLoad t dst (loaded w (t .stack) (address (value t src) off) size)
@@ -126,7 +126,7 @@ unfoldable pub isNoInstruction : Instruction → Bool
 isNoInstruction NoInstruction = true
 isNoInstruction (Alu w op d s) = false
 isNoInstruction (Neg w d) = false
-isNoInstruction (Jump c d s off) = false
+isNoInstruction (Jump w c d s off) = false
 isNoInstruction (Always off) = false
 isNoInstruction Exit = false
 isNoInstruction (Load z d s off) = false

@@ -16,7 +16,7 @@ use word::Operation;
 use word::sign::extend16;
 use word::sign::extend32;
 
-// Class 7 works on 64 bits, class 4 on 32.
+// Classes 7 and 5 work on 64 bits, classes 4 and 6 on the low 32.
 pub enum Width {
     Long,
     Short,
@@ -49,6 +49,7 @@ pub enum Instruction {
         dst: u64,
     },
     Jump {
+        width: Width,
         comparison: Comparison,
         dst: u64,
         operand: Operand,
@@ -126,26 +127,27 @@ fn meaning(opcode: u64, dst: u64, src: u64, off: u64, imm: u64) -> Instruction
     by_class(opcode, dst, src, off, imm)
 }
 
+// Of the classes that have two widths the odd ones are the wide ones.
 fn width_of(opcode: u64) -> Width
-    ensures { λ r. ⌜ r ≡ cond (eqb (opcode % 8) 7) Width.Long Width.Short ⌝ }
+    ensures { λ r. ⌜ r ≡ cond (eqb (opcode % 2) 1) Width.Long Width.Short ⌝ }
 {
-    if opcode % 8 == 7 {
+    if opcode % 2 == 1 {
         return Width::Long;
     }
     Width::Short
 }
 
-// Both widths come to one call, so that the tables of a class are compiled once.
+// Both widths come to one call, so that the tables of a class are compiled once. Classes 5 and 6 are what is left.
 fn by_class(opcode: u64, dst: u64, src: u64, off: u64, imm: u64) -> Instruction
     ensures { λ r. ⌜ r ≡ defined.byClass (record { opcode = opcode; dst = dst; src = src; off = off; imm = imm }) ⌝ }
 {
     match opcode % 8 {
         4 | 7 => arithmetic(width_of(opcode), opcode, dst, src, off, imm),
-        5 => jump(opcode, dst, src, off, imm),
         1 => load(opcode, dst, src, off, imm),
         2 => store_of_imm(opcode, dst, src, off, imm),
         3 => store_of_src(opcode, dst, src, off, imm),
-        _ => Instruction::NoInstruction,
+        0 => Instruction::NoInstruction,
+        _ => jump(width_of(opcode), opcode, dst, src, off, imm),
     }
 }
 
@@ -212,8 +214,8 @@ fn alu(width: Width, operation: Operation, opcode: u64, dst: u64, src: u64, imm:
 }
 
 // JA and EXIT are told by the whole opcode, since they have bit 3 clear.
-fn jump(opcode: u64, dst: u64, src: u64, off: u64, imm: u64) -> Instruction
-    ensures { λ r. ⌜ r ≡ defined.jump (record { opcode = opcode; dst = dst; src = src; off = off; imm = imm }) ⌝ }
+fn jump(width: Width, opcode: u64, dst: u64, src: u64, off: u64, imm: u64) -> Instruction
+    ensures { λ r. ⌜ r ≡ defined.jump width (record { opcode = opcode; dst = dst; src = src; off = off; imm = imm }) ⌝ }
 {
     if opcode == 0x05 {
         return always(dst, src, off, imm);
@@ -222,17 +224,17 @@ fn jump(opcode: u64, dst: u64, src: u64, off: u64, imm: u64) -> Instruction
         return exit(dst, src, off, imm);
     }
     match opcode / 16 {
-        1 => branch(Comparison::Eq, opcode, dst, src, off, imm),
-        2 => branch(Comparison::Gt, opcode, dst, src, off, imm),
-        3 => branch(Comparison::Ge, opcode, dst, src, off, imm),
-        4 => branch(Comparison::Set, opcode, dst, src, off, imm),
-        5 => branch(Comparison::Ne, opcode, dst, src, off, imm),
-        6 => branch(Comparison::Sgt, opcode, dst, src, off, imm),
-        7 => branch(Comparison::Sge, opcode, dst, src, off, imm),
-        10 => branch(Comparison::Lt, opcode, dst, src, off, imm),
-        11 => branch(Comparison::Le, opcode, dst, src, off, imm),
-        12 => branch(Comparison::Slt, opcode, dst, src, off, imm),
-        13 => branch(Comparison::Sle, opcode, dst, src, off, imm),
+        1 => branch(width, Comparison::Eq, opcode, dst, src, off, imm),
+        2 => branch(width, Comparison::Gt, opcode, dst, src, off, imm),
+        3 => branch(width, Comparison::Ge, opcode, dst, src, off, imm),
+        4 => branch(width, Comparison::Set, opcode, dst, src, off, imm),
+        5 => branch(width, Comparison::Ne, opcode, dst, src, off, imm),
+        6 => branch(width, Comparison::Sgt, opcode, dst, src, off, imm),
+        7 => branch(width, Comparison::Sge, opcode, dst, src, off, imm),
+        10 => branch(width, Comparison::Lt, opcode, dst, src, off, imm),
+        11 => branch(width, Comparison::Le, opcode, dst, src, off, imm),
+        12 => branch(width, Comparison::Slt, opcode, dst, src, off, imm),
+        13 => branch(width, Comparison::Sle, opcode, dst, src, off, imm),
         _ => Instruction::NoInstruction,
     }
 }
@@ -259,6 +261,7 @@ fn exit(dst: u64, src: u64, off: u64, imm: u64) -> Instruction
 
 // A comparison, once its code is known. It differs from `alu` only in the instruction that is made.
 fn branch(
+    width: Width,
     comparison: Comparison,
     opcode: u64,
     dst: u64,
@@ -267,7 +270,7 @@ fn branch(
     imm: u64,
 ) -> Instruction
     ensures { λ r. ⌜ r ≡ withOperand (record { opcode = opcode; dst = dst; src = src; off = off; imm = imm })
-        (λ operand. Instruction.Jump comparison dst operand (extend 16 off)) ⌝ }
+        (λ operand. Instruction.Jump width comparison dst operand (extend 16 off)) ⌝ }
 {
     let off = extend16(off);
     if opcode / 8 % 2 == 0 {
@@ -275,6 +278,7 @@ fn branch(
             return Instruction::NoInstruction;
         }
         return Instruction::Jump {
+            width,
             comparison,
             dst,
             operand: Operand::Immediate(extend32(imm)),
@@ -285,6 +289,7 @@ fn branch(
         return Instruction::NoInstruction;
     }
     Instruction::Jump {
+        width,
         comparison,
         dst,
         operand: Operand::Register(src),

@@ -9,12 +9,12 @@ use borrow.Author.Tests.{ne-eqb, lt-ltb, le-ltb}
 use Rattle.word.specs.declared.Comparison.{Comparison}
 use Rattle.word.specs.declared.Operation.{Operation}
 use Rattle.word.specs.declared.Operation.the-variants.{Add, Sub, Mul, Div, Or, And, Lsh, Rsh, Neg, Mod, Xor, Mov, Arsh}
+use Rattle.machine.specs.declared.instruction.Width.{Width}
 use Rattle.machine.specs.declared.instruction.Width.the-variants.{Long, Short}
 use Rattle.machine.specs.declared.instruction.Operand.{Operand}
 use Rattle.number.specs.declared.Number.{Number}
 use Rattle.number.specs.Sharpen.{exact, joinedNumber, loaded}
 use Rattle.number.specs.Computed.{computed, fits}
-use Rattle.number.specs.Compare.{taken, notTaken}
 use Rattle.analysis.specs.declared.Reason.the-variants.{Outside}
 use Rattle.analysis.specs.declared.Gone.the-variants.{Never, Mixed}
 use Rattle.analysis.specs.declared.Value.{Value}
@@ -22,7 +22,7 @@ use Rattle.analysis.specs.declared.Value.the-variants.{Unusable, Plain, Address
 use Rattle.analysis.specs.declared.Effect.{Effect}
 use Rattle.analysis.specs.declared.Effect.the-variants.{Refuse, Keep, Fork, Stop}
 use Rattle.analysis.specs.Values.{joinedValue, joinedGone, sameRegion}
-use Rattle.analysis.specs.Effects.{isNever, isMixed, reading, readingBoth, put, adds, subtracts, calculates, role, calculate, sum, difference, arithmetic, limit, load, storeAt, store, fork, exit}
+use Rattle.analysis.specs.Effects.{isNever, isMixed, reading, readingBoth, put, adds, subtracts, calculates, role, calculate, sum, difference, arithmetic, limit, load, storeAt, store, told, fork, exit}
 use Rattle.verifier.specs.Scratch.{ofKind, joinedKind}
 use Rattle.verifier.specs.Outcome.{reasonOf, unusable, movedKind, resultKind}
 
@@ -269,11 +269,11 @@ module _ (size off : ℕ) (a b : Number) where
 
 -- ---- jumps
 
-module _ (c : Comparison) (d : ℕ) (s : Operand) (target : ℕ) (a b : Number) where
+module _ (w : Width) (c : Comparison) (d : ℕ) (s : Operand) (target : ℕ) (a b : Number) where
   abbrev Compares : ℕ → ℕ → Type 0
   Compares x y =
-      readingBoth (ofKind x a) (ofKind y b) (fork c d s target (ofKind x a) (ofKind y b))
-      ≡ cond (not (eqb x 2) || not (eqb y 2)) (Refuse (reasonOf (unusable x y))) (Fork d s (notTaken c a b) (taken c a b) target)
+      readingBoth (ofKind x a) (ofKind y b) (fork w c d s target (ofKind x a) (ofKind y b))
+      ≡ cond (not (eqb x 2) || not (eqb y 2)) (Refuse (reasonOf (unusable x y))) (Fork d s (told w c false a b) (told w c true a b) target)
 
   pub numbers-are-compared : (x y : ℕ) → Compares x y
   unfolding ofKind readingBoth isNever isMixed reasonOf unusable fork

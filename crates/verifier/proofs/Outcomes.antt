@@ -14,6 +14,7 @@ use Rattle.word.specs.declared.Comparison.{Comparison}
 use Rattle.word.specs.declared.Operation.{Operation}
 use Rattle.word.specs.declared.Operation.the-variants.{Add, Sub, Mov}
 use Rattle.word.proofs.Operation as operation
+use Rattle.machine.specs.declared.instruction.Width.{Width}
 use Rattle.machine.specs.declared.instruction.Width.the-variants.{Long}
 use Rattle.machine.specs.declared.instruction.Operand.{Operand}
 use Rattle.machine.specs.declared.instruction.Instruction.{Instruction}
@@ -23,13 +24,12 @@ use Rattle.machine.proofs.instruction.Instruction as declared
 use Rattle.number.specs.declared.Number.{Number}
 use Rattle.number.specs.Sharpen.{exact, loaded}
 use Rattle.number.specs.Computed.{computed, fits}
-use Rattle.number.specs.Compare.{taken, notTaken}
 use Rattle.analysis.specs.declared.Reason.the-variants.{Outside}
 use Rattle.analysis.specs.declared.Value.{Value}
 use Rattle.analysis.specs.declared.Value.the-variants.{Plain}
 use Rattle.analysis.specs.declared.Effect.{Effect}
 use Rattle.analysis.specs.declared.Effect.the-variants.{Refuse, Keep, Fork, Stop}
-use Rattle.analysis.specs.Effects.{reading, readingBoth, put, role, calculate, arithmetic, load, store, fork, exit}
+use Rattle.analysis.specs.Effects.{reading, readingBoth, put, role, calculate, arithmetic, load, store, told, fork, exit}
 use Rattle.verifier.specs.declared.value.Held.{Held}
 use Rattle.verifier.specs.Scratch.{ofKind, heldIn, shortened}
 use Rattle.verifier.specs.Outcome.{reasonOf, effectIn, withoutJumps, unusable, resultKind}
@@ -80,7 +80,7 @@ pub no-jump : (n : ℕ) (ins : Instruction) → OneOf allButJumps (tagOf declare
 unfolding withoutJumps shortened
 no-jump n (Alu w op d s) h = refl
 no-jump n (instruction.Neg w d) h = refl
-no-jump n (Jump c d s off) h = absurd (miss allButJumps 2 (tt {0}) h)
+no-jump n (Jump w c d s off) h = absurd (miss allButJumps 2 (tt {0}) h)
 no-jump n (Always off) h = absurd (miss allButJumps 3 (tt {0}) h)
 no-jump n Exit h = refl
 no-jump n (Load z d s off) h = refl
@@ -91,7 +91,7 @@ pub jumps-or-nothing : (ins : Instruction) → OneOf jumpsAndNothing (tagOf decl
 unfolding withoutJumps
 jumps-or-nothing (Alu w op d s) h = absurd (miss jumpsAndNothing 0 (tt {0}) h)
 jumps-or-nothing (instruction.Neg w d) h = absurd (miss jumpsAndNothing 1 (tt {0}) h)
-jumps-or-nothing (Jump c d s off) h = refl
+jumps-or-nothing (Jump w c d s off) h = refl
 jumps-or-nothing (Always off) h = refl
 jumps-or-nothing Exit h = absurd (miss jumpsAndNothing 4 (tt {0}) h)
 jumps-or-nothing (Load z d s off) h = absurd (miss jumpsAndNothing 5 (tt {0}) h)
@@ -195,14 +195,14 @@ module _ (u v : Held) where
       unfolding heldIn
       beyond-the-stack l no-fit = rw (what-is-stored size off (u .number) (v .number) (u .kind) (v .kind), e, le-ltb (u .kind) 4 l, no-fit)
 
-  module _ (c : Comparison) (d : ℕ) (s : Operand) (target : ℕ) where
+  module _ (w : Width) (c : Comparison) (d : ℕ) (s : Operand) (target : ℕ) where
     abbrev Forks : Effect
-    Forks = readingBoth (heldIn u) (heldIn v) (fork c d s target (heldIn u) (heldIn v))
+    Forks = readingBoth (heldIn u) (heldIn v) (fork w c d s target (heldIn u) (heldIn v))
 
     pub they-may-not-be-compared : (not (eqb (u .kind) 2) || not (eqb (v .kind) 2)) ≡ true → Refuse (reasonOf (unusable (u .kind) (v .kind))) ≡ Forks
     unfolding heldIn
-    they-may-not-be-compared e = rw (numbers-are-compared c d s target (u .number) (v .number) (u .kind) (v .kind), e)
+    they-may-not-be-compared e = rw (numbers-are-compared w c d s target (u .number) (v .number) (u .kind) (v .kind), e)
 
-    pub they-are-compared : (not (eqb (u .kind) 2) || not (eqb (v .kind) 2)) ≡ false → Fork d s (notTaken c (u .number) (v .number)) (taken c (u .number) (v .number)) target ≡ Forks
+    pub they-are-compared : (not (eqb (u .kind) 2) || not (eqb (v .kind) 2)) ≡ false → Fork d s (told w c false (u .number) (v .number)) (told w c true (u .number) (v .number)) target ≡ Forks
     unfolding heldIn
-    they-are-compared e = rw (numbers-are-compared c d s target (u .number) (v .number) (u .kind) (v .kind), e)
+    they-are-compared e = rw (numbers-are-compared w c d s target (u .number) (v .number) (u .kind) (v .kind), e)

@@ -23,14 +23,13 @@ use Rattle.number.specs.declared.Refined.{Refined}
 use Rattle.number.specs.declared.Refined.the-variants.{Excluded, Possible}
 use Rattle.number.specs.Sharpen.{exact, just}
 use Rattle.number.specs.Computed.{computed}
-use Rattle.number.specs.Compare.{taken, notTaken, refined}
 use Rattle.number.proofs.Computing.{computed-exact}
-use Rattle.number.proofs.AgainstKnown.{refined-exact, refined-exact-excluded}
+use Rattle.analysis.proofs.Told.{told-exact, told-exact-excluded}
 use Rattle.analysis.specs.declared.Value.{Value}
 use Rattle.analysis.specs.declared.Value.the-variants.{Plain}
 use Rattle.analysis.specs.declared.Effect.{Effect}
 use Rattle.analysis.specs.Values.{Facts, valueOf, operandOf}
-use Rattle.analysis.specs.Effects.{isNever, isMixed, reading, readingBoth, put, role, calculate, sum, difference, arithmetic, fork}
+use Rattle.analysis.specs.Effects.{isNever, isMixed, reading, readingBoth, put, role, calculate, sum, difference, arithmetic, told, fork}
 use Rattle.analysis.specs.Judged.{Waiting, Progress, halted, onward, having, withOperand, along, apply, send, andThen, distribute}
 use Rattle.analysis.proofs.ExactEffects.{set-get}
 use Rattle.verifier.specs.declared.Step.{Step}
@@ -113,7 +112,7 @@ unfolding andThen send
 no-second-way n j (halted reason p work) = refl
 no-second-way n j (onward p work) = refl
 
-module _ (n i work : ℕ) (p : Waiting) (a : Facts) (c : Comparison) (d : ℕ) (s : Operand) (target x y : ℕ) (is-x : valueOf a d ≡ Plain (exact x))
+module _ (n i work : ℕ) (p : Waiting) (a : Facts) (w : Width) (c : Comparison) (d : ℕ) (s : Operand) (target x y : ℕ) (is-x : valueOf a d ≡ Plain (exact x))
     (is-y : operandOf a s ≡ Plain (exact y)) (hx : x < 2 ^ 64) (hy : y < 2 ^ 64) where
   goes-as-it-is : (way : Refined) → way ≡ Possible (exact x) (exact y) → along a d s way ≡ some a
   unfolding along
@@ -123,29 +122,29 @@ module _ (n i work : ℕ) (p : Waiting) (a : Facts) (c : Comparison) (d : ℕ) (
   unfolding along
   does-not-go way e = rw e
 
-  ways : (onward′ taken′ : Refined) → onward′ ≡ notTaken c (exact x) (exact y) → taken′ ≡ taken c (exact x) (exact y)
-      → distribute n i p work (apply a (readingBoth (valueOf a d) (operandOf a s) (fork c d s target (valueOf a d) (operandOf a s))))
+  ways : (onward′ taken′ : Refined) → onward′ ≡ told w c false (exact x) (exact y) → taken′ ≡ told w c true (exact x) (exact y)
+      → distribute n i p work (apply a (readingBoth (valueOf a d) (operandOf a s) (fork w c d s target (valueOf a d) (operandOf a s))))
       ≡ andThen (send n (i + 1) (along a d s onward′) p work) (send n target (along a d s taken′))
   unfolding distribute apply readingBoth isNever isMixed fork
   ways onward′ taken′ o t = rw (is-x, is-y, o, t)
 
-  a-decided-jump : (b : Bool) → b ≡ compare 64 c x y
-      → distribute n i p work (apply a (readingBoth (valueOf a d) (operandOf a s) (fork c d s target (valueOf a d) (operandOf a s))))
+  a-decided-jump : (b : Bool) → b ≡ compare (bits w) c x y
+      → distribute n i p work (apply a (readingBoth (valueOf a d) (operandOf a s) (fork w c d s target (valueOf a d) (operandOf a s))))
       ≡ send n (cond b target (i + 1)) (some a) p work
-  unfolding refined send andThen
+  unfolding send andThen
   a-decided-jump true e =
       ways _ _ refl refl
-      ∙ rw (does-not-go _ (refined-exact-excluded c false x y hx hy (sym e)), goes-as-it-is _ (refined-exact c true x y hx hy (sym e)))
+      ∙ rw (does-not-go _ (told-exact-excluded w c false x y hx hy (sym e)), goes-as-it-is _ (told-exact w c true x y hx hy (sym e)))
   a-decided-jump false e =
       ways _ _ refl refl
-      ∙ rw (goes-as-it-is _ (refined-exact c false x y hx hy (sym e)), does-not-go _ (refined-exact-excluded c true x y hx hy (sym e)))
+      ∙ rw (goes-as-it-is _ (told-exact w c false x y hx hy (sym e)), does-not-go _ (told-exact-excluded w c true x y hx hy (sym e)))
       (no-second-way n target (send n (i + 1) (some a) p work))
 
 -- the jump's own statement, where the state is that of index i
-pub a-decided-jump-is-sent : (n i work : ℕ) (m m′ : List ℕ) (c : Comparison) (d : ℕ) (s : Operand) (target x y : ℕ) (b : Bool) (r : Step)
-    → (valueOf (factsAt m (56 * i + 1)) d ≡ Plain (exact x)) × (operandOf (factsAt m (56 * i + 1)) s ≡ Plain (exact y)) → b ≡ compare 64 c x y
+pub a-decided-jump-is-sent : (n i work : ℕ) (m m′ : List ℕ) (w : Width) (c : Comparison) (d : ℕ) (s : Operand) (target x y : ℕ) (b : Bool) (r : Step)
+    → (valueOf (factsAt m (56 * i + 1)) d ≡ Plain (exact x)) × (operandOf (factsAt m (56 * i + 1)) s ≡ Plain (exact y)) → b ≡ compare (bits w) c x y
     → Sent (send n (cond b target (i + 1)) (some (factsAt m (56 * i + 1))) (waitingIn n m) work) n i r m m′ → x < 2 ^ 64 → y < 2 ^ 64
     → Sent (distribute n i (waitingIn n m) work (apply (factsAt m (56 * i + 1)) (readingBoth (valueOf (factsAt m (56 * i + 1)) d) (operandOf (factsAt m (56 * i + 1)) s)
-    (fork c d s target (valueOf (factsAt m (56 * i + 1)) d) (operandOf (factsAt m (56 * i + 1)) s))))) n i r m m′
-a-decided-jump-is-sent n i work m m′ c d s target x y b r known goes sent hx hy =
-    subst (λ p. Sent p n i r m m′) (sym (a-decided-jump n i work (waitingIn n m) (factsAt m (56 * i + 1)) c d s target x y (known .0) (known .1) hx hy b goes)) sent
+    (fork w c d s target (valueOf (factsAt m (56 * i + 1)) d) (operandOf (factsAt m (56 * i + 1)) s))))) n i r m m′
+a-decided-jump-is-sent n i work m m′ w c d s target x y b r known goes sent hx hy =
+    subst (λ p. Sent p n i r m m′) (sym (a-decided-jump n i work (waitingIn n m) (factsAt m (56 * i + 1)) w c d s target x y (known .0) (known .1) hx hy b goes)) sent

@@ -11,11 +11,11 @@ use native.Mathlib.Omega.{arith}
 use native.Mathlib.Nat.{sub-zero}
 use borrow.Author.Tests.{ne-eqb, lt-ltb, le-ltb, leb-true, leb-false}
 use Rattle.word.specs.declared.Comparison.{Comparison}
+use Rattle.machine.specs.declared.instruction.Width.{Width}
 use Rattle.machine.specs.declared.instruction.Operand.{Operand}
 use Rattle.machine.specs.declared.instruction.Instruction.{Instruction}
 use Rattle.machine.specs.declared.instruction.Instruction.the-variants.{Alu, Neg, Jump, Always, Exit, Load, Store, NoInstruction}
 use Rattle.number.specs.declared.Refined.{Refined}
-use Rattle.number.specs.Compare.{taken, notTaken}
 use Rattle.analysis.specs.declared.Reason.{Reason}
 use Rattle.analysis.specs.declared.Reason.the-variants.{JumpsOut, ReadsUnset, LeaksAddress}
 use Rattle.analysis.specs.declared.Finding.the-variants.{Accepted, Refused}
@@ -24,7 +24,7 @@ use Rattle.analysis.specs.declared.Value.the-variants.{Unusable, Plain, Address
 use Rattle.analysis.specs.declared.Effect.{Effect}
 use Rattle.analysis.specs.declared.Effect.the-variants.{Refuse, Goto}
 use Rattle.analysis.specs.Values.{Facts, valueOf, operandOf, meeting}
-use Rattle.analysis.specs.Effects.{isNever, isMixed, readingBoth, fork, effect}
+use Rattle.analysis.specs.Effects.{isNever, isMixed, readingBoth, told, fork, effect}
 use Rattle.analysis.specs.Form.{instruction}
 use Rattle.analysis.specs.Judged.{Waiting, having, arrive, Flow, refuses, flows, apply, along, Progress, halted, onward, send, andThen, distribute, visit, Walk, conclude, pass, followed}
 use Rattle.verifier.specs.declared.Step.{Step}
@@ -204,21 +204,21 @@ alike-where-read n i p work a x y e f h = unset (isNever x || isNever y)
     unset true = refl
     unset false = mixed (isMixed x || isMixed y)
 
-alike-forks : (n i : ℕ) (p : Waiting) (work : ℕ) (a : Facts) (c : Comparison) (d : ℕ) (s : Operand) (off : ℕ) (x y : Value)
-    → Alike n i p work a (fork c d s (i + 1 + min off n) x y) (fork c d s (i + 1 + off) x y)
+alike-forks : (n i : ℕ) (p : Waiting) (work : ℕ) (a : Facts) (v : Width) (c : Comparison) (d : ℕ) (s : Operand) (off : ℕ) (x y : Value)
+    → Alike n i p work a (fork v c d s (i + 1 + min off n) x y) (fork v c d s (i + 1 + off) x y)
 unfolding fork apply distribute
-alike-forks n i p work a c d s off (Plain u) (Plain v) =
+alike-forks n i p work a v c d s off (Plain x) (Plain y) =
     ap (andThen (send n (i + 1) (along a d s _) p work)) (fun-ext (λ q. fun-ext (λ w. farther-out n i off (along a d s _) q w)))
-alike-forks n i p work a c d s off (Plain u) (Address q v) = refl
-alike-forks n i p work a c d s off (Plain u) (Unusable h) = refl
-alike-forks n i p work a c d s off (Address q u) y = refl
-alike-forks n i p work a c d s off (Unusable g) y = refl
+alike-forks n i p work a v c d s off (Plain x) (Address q y) = refl
+alike-forks n i p work a v c d s off (Plain u) (Unusable h) = refl
+alike-forks n i p work a v c d s off (Address q u) y = refl
+alike-forks n i p work a v c d s off (Unusable g) y = refl
 
 pub a-shortened-jump-leads-out-as-well : (n i R : ℕ) (p : Waiting) (work : ℕ) (a : Facts) (ins : Instruction)
     → distribute n i p work (apply a (effect R i a (shortened n ins))) ≡ distribute n i p work (apply a (effect R i a ins))
 unfolding effect shortened apply distribute
-a-shortened-jump-leads-out-as-well n i R p work a (Jump c d s off) =
-    alike-where-read n i p work a (valueOf a d) (operandOf a s) _ _ (alike-forks n i p work a c d s off (valueOf a d) (operandOf a s))
+a-shortened-jump-leads-out-as-well n i R p work a (Jump v c d s off) =
+    alike-where-read n i p work a (valueOf a d) (operandOf a s) _ _ (alike-forks n i p work a v c d s off (valueOf a d) (operandOf a s))
 a-shortened-jump-leads-out-as-well n i R p work a (Always off) =
     ap (andThen (send n (i + 1) none p work)) (fun-ext (λ q. fun-ext (λ w. farther-out n i off (some a) q w)))
 a-shortened-jump-leads-out-as-well n i R p work a (Alu w op d s) = refl
@@ -230,33 +230,33 @@ a-shortened-jump-leads-out-as-well n i R p work a NoInstruction = refl
 
 -- ---- a jump
 
-module _ (n i work : ℕ) (m : List ℕ) (c : Comparison) (d : ℕ) (s : Operand) (target : ℕ) (u v : Held)
+module _ (n i work : ℕ) (m : List ℕ) (w : Width) (c : Comparison) (d : ℕ) (s : Operand) (target : ℕ) (u v : Held)
     (is-u : heldIn u ≡ valueOf (factsAt m (56 * i + 1)) d) (is-v : heldIn v ≡ operandOf (factsAt m (56 * i + 1)) s) where
   abbrev Jumps : Progress
   Jumps =
       distribute n i (waitingIn n m) work (apply (factsAt m (56 * i + 1))
       (readingBoth (valueOf (factsAt m (56 * i + 1)) d) (operandOf (factsAt m (56 * i + 1)) s)
-      (fork c d s target (valueOf (factsAt m (56 * i + 1)) d) (operandOf (factsAt m (56 * i + 1)) s))))
+      (fork w c d s target (valueOf (factsAt m (56 * i + 1)) d) (operandOf (factsAt m (56 * i + 1)) s))))
 
   pub a-jump-on-no-numbers : (code : ℕ) (reason : Reason) → (not (eqb (u .kind) 2) || not (eqb (v .kind) 2)) ≡ true → code ≡ unusable (u .kind) (v .kind)
       → reason ≡ reasonOf code → Sent Jumps n i (Halt reason work) m m
   unfolding apply distribute
   a-jump-on-no-numbers code reason e is-code is-reason =
-      rw (sym is-u, sym is-v, sym (they-may-not-be-compared u v c d s target e), sym is-code, sym is-reason)
+      rw (sym is-u, sym is-v, sym (they-may-not-be-compared u v w c d s target e), sym is-code, sym is-reason)
       (halting-changes-nothing n i m reason work)
 
-  module _ (e : (not (eqb (u .kind) 2) || not (eqb (v .kind) 2)) ≡ false) (x : Refined) (is-x : x ≡ notTaken c (u .number) (v .number)) where
-    both-ways : (y : Refined) → y ≡ taken c (u .number) (v .number)
+  module _ (e : (not (eqb (u .kind) 2) || not (eqb (v .kind) 2)) ≡ false) (x : Refined) (is-x : x ≡ told w c false (u .number) (v .number)) where
+    both-ways : (y : Refined) → y ≡ told w c true (u .number) (v .number)
         → Jumps ≡ andThen (send n (i + 1) (along (factsAt m (56 * i + 1)) d s x) (waitingIn n m) work) (send n target (along (factsAt m (56 * i + 1)) d s y))
     unfolding apply distribute
-    both-ways y is-y = rw (sym is-u, sym is-v, sym (they-are-compared u v c d s target e), sym is-x, sym is-y)
+    both-ways y is-y = rw (sym is-u, sym is-v, sym (they-are-compared u v w c d s target e), sym is-x, sym is-y)
 
     pub a-jump-that-halts : (m′ : List ℕ) (reason : Reason) (done : ℕ)
         → Sent (send n (i + 1) (along (factsAt m (56 * i + 1)) d s x) (waitingIn n m) work) n i (Halt reason done) m m′ → Sent Jumps n i (Halt reason done) m m′
     a-jump-that-halts m′ reason done h =
         subst (λ p. Sent p n i (Halt reason done) m m′) (sym (both-ways _ refl)) (a-step-that-halts _ _ n i m m′ reason done h)
 
-    pub a-jump-that-goes-on : (y : Refined) (m′ m″ : List ℕ) (done : ℕ) (r : Step) → y ≡ taken c (u .number) (v .number)
+    pub a-jump-that-goes-on : (y : Refined) (m′ m″ : List ℕ) (done : ℕ) (r : Step) → y ≡ told w c true (u .number) (v .number)
         → Sent (send n (i + 1) (along (factsAt m (56 * i + 1)) d s x) (waitingIn n m) work) n i (More done) m m′
         → Sent (send n target (along (factsAt m′ (56 * i + 1)) d s y) (waitingIn n m′) done) n i r m′ m″ → Sent Jumps n i r m m″
     a-jump-that-goes-on y m′ m″ done r is-y h g =
@@ -293,13 +293,13 @@ module _ (program : List ℕ) (R n i : ℕ) (m m′ : List ℕ) (work : ℕ) (r 
   abbrev a : Facts
   a = factsAt m (56 * i + 1)
 
-  pub a-jump-is-reached : (c : Comparison) (d : ℕ) (s : Operand) → ins ≡ Jump c d s off
-      → Sent (distribute n i (waitingIn n m) (work + 1) (apply a (readingBoth (valueOf a d) (operandOf a s) (fork c d s target (valueOf a d) (operandOf a s))))) n i r m m′
+  pub a-jump-is-reached : (w : Width) (c : Comparison) (d : ℕ) (s : Operand) → ins ≡ Jump w c d s off
+      → Sent (distribute n i (waitingIn n m) (work + 1) (apply a (readingBoth (valueOf a d) (operandOf a s) (fork w c d s target (valueOf a d) (operandOf a s))))) n i r m m′
       → Sent (visit program R i (waitingIn n m) work (waitingIn n m i)) n i r m m′
   unfolding effect shortened
-  a-jump-is-reached c d s jumps h = an-index-that-a-path-reaches program R n i m m′ work r ins _ l size mark is does h
+  a-jump-is-reached w c d s jumps h = an-index-that-a-path-reaches program R n i m m′ work r ins _ l size mark is does h
     where
-      does : readingBoth (valueOf a d) (operandOf a s) (fork c d s target (valueOf a d) (operandOf a s)) ≡ effect R i a (shortened n ins)
+      does : readingBoth (valueOf a d) (operandOf a s) (fork w c d s target (valueOf a d) (operandOf a s)) ≡ effect R i a (shortened n ins)
       does = rw (jumps, leads)
 
   pub a-way-is-reached : ins ≡ Always off → Sent (send n target (some a) (waitingIn n m) (work + 1)) n i r m m′

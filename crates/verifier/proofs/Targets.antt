@@ -3,6 +3,7 @@
 use Prim.Native.Nat.{ℕ, zero, suc, _+_, _-_, _*_, _/_, _%_, _^_, _≤_, _<_, max}
 use mathlib.Core.Path.{_≡_, refl, sym, ap, _∙_, subst}
 use mathlib.Core.Bool.{Bool, true, false, cond, not, _&&_, _||_, true≢false}
+use mathlib.Core.Logic.{_⊎_, inl, inr}
 use mathlib.Core.Option.{Option, none, some}
 use mathlib.Core.List.{List, [], _∷_}
 use lib.ListN.{length, getD, set, replicate, length-set}
@@ -29,6 +30,22 @@ use Rattle.analysis.specs.declared.Finding.the-variants.{Accepted, Refused}
 use Rattle.analysis.specs.Form.{instruction, offOf, goesOut, mayBeLast, goesOn, Fine}
 use Rattle.analysis.specs.Paths.{noTarget, aimed, reaching, connected}
 use Rattle.verifier.specs.Targets.{targetsIn, Marked, Left}
+
+-- ---- one of two classes, or neither
+
+not-the-first : (a b : Bool) → (not a && not b) ≡ true → a ≡ true → ⊥
+not-the-first true b h e = true≢false (sym h)
+not-the-first false b h e = true≢false (sym e)
+
+not-the-second : (a b : Bool) → (not a && not b) ≡ true → b ≡ true → ⊥
+not-the-second true b h e = true≢false (sym h)
+not-the-second false true h e = true≢false (sym h)
+not-the-second false false h e = true≢false (sym e)
+
+one-of-both : (a b : Bool) → (not a && not b) ≡ false → (a ≡ true) ⊎ (b ≡ true)
+one-of-both true b h = inl refl
+one-of-both false true h = inr refl
+one-of-both false false h = absurd (true≢false h)
 
 -- ---- by opcode and off
 
@@ -80,36 +97,42 @@ module _ (f : Fields) where
   unfolding storeOfSrc goesOn mayBeLast offOf
   store-of-src-goes-on = shape-line (f .opcode) storesOfSrc _ (λ z. shape-only (eqb (f .imm) 0) (record { shape = λ i. (refl, refl) }))
 
-  -- an instruction of a class other than 5 goes on, and is no jump
-  other-shape : (f .opcode % 8 ≡ 5 → ⊥) → Shaped true none (meaning f)
+  -- an instruction of a class other than 5 and 6 goes on, and is no jump
+  other-shape : (not (eqb (f .opcode % 8) 5) && not (eqb (f .opcode % 8) 6)) ≡ true → Shaped true none (meaning f)
   unfolding meaning byClass
-  other-shape not-5 =
+  other-shape neither =
       shape-only (leb (f .dst) 10 && leb (f .src) 10)
       (shape-either (eqb (f .opcode % 8) 7) (λ e. arithmetic-goes-on Long)
       (λ e. shape-either (eqb (f .opcode % 8) 4) (λ e. arithmetic-goes-on Short)
-      (λ e. shape-either (eqb (f .opcode % 8) 5) (λ e. absurd (not-5 (eqb-true _ _ e)))
+      (λ e. shape-either (eqb (f .opcode % 8) 5) (λ e. absurd (not-the-first (eqb (f .opcode % 8) 5) (eqb (f .opcode % 8) 6) neither e))
+      (λ e. shape-either (eqb (f .opcode % 8) 6) (λ e. absurd (not-the-second (eqb (f .opcode % 8) 5) (eqb (f .opcode % 8) 6) neither e))
       (λ e. shape-either (eqb (f .opcode % 8) 1) (λ e. load-goes-on)
       (λ e. shape-either (eqb (f .opcode % 8) 2) (λ e. store-of-imm-goes-on)
       (λ e. shape-either (eqb (f .opcode % 8) 3) (λ e. store-of-src-goes-on)
-      (λ e. no-shape)))))))
+      (λ e. no-shape))))))))
 
-  jump-class : {on : Bool} {off : Option ℕ} → f .opcode % 8 ≡ 5 → Shaped on off (jump f) → Shaped on off (meaning f)
+  jump-class : {on : Bool} {off : Option ℕ} → (not (eqb (f .opcode % 8) 5) && not (eqb (f .opcode % 8) 6)) ≡ false
+      → ((w : Width) → Shaped on off (jump w f)) → Shaped on off (meaning f)
   unfolding meaning byClass
-  jump-class is-5 h = shape-only (leb (f .dst) 10 && leb (f .src) 10) (rw is-5 h)
+  jump-class {on} {off} jumps h = shape-only (leb (f .dst) 10 && leb (f .src) 10) (of-class (one-of-both _ _ jumps))
+    where
+      of-class : (eqb (f .opcode % 8) 5 ≡ true) ⊎ (eqb (f .opcode % 8) 6 ≡ true) → Shaped on off (byClass f)
+      of-class (inl e) = rw (eqb-true (f .opcode % 8) 5 e) (h Long)
+      of-class (inr e) = rw (eqb-true (f .opcode % 8) 6 e) (h Short)
 
   exit-shape : f .opcode ≡ 0x95 → Shaped false none (meaning f)
   unfolding jump goesOn mayBeLast offOf
   exit-shape is =
-      jump-class (rw is refl) (shape-either (eqb (f .opcode) 0x05) (λ e. absurd (let z : f .opcode ≡ 5 = eqb-true _ _ e in omega arith))
+      jump-class (rw is refl) (λ w. shape-either (eqb (f .opcode) 0x05) (λ e. absurd (let z : f .opcode ≡ 5 = eqb-true _ _ e in omega arith))
       (λ e. shape-either (eqb (f .opcode) 0x95)
       (λ e. shape-only (eqb (f .dst) 0 && eqb (f .src) 0 && eqb (f .imm) 0 && eqb (f .off) 0) (record { shape = λ i. (refl, refl) }))
       (λ e. absurd (eqb-false _ _ e is))))
 
-  -- any other of class 5 jumps, and goes on unless it is JA
-  jump-shape : f .opcode % 8 ≡ 5 → (f .opcode ≡ 0x95 → ⊥) → Shaped (not (eqb (f .opcode) 0x05)) (some (extend 16 (f .off))) (meaning f)
+  -- any other of these classes jumps, and goes on unless it is JA
+  jump-shape : (not (eqb (f .opcode % 8) 5) && not (eqb (f .opcode % 8) 6)) ≡ false → (f .opcode ≡ 0x95 → ⊥) → Shaped (not (eqb (f .opcode) 0x05)) (some (extend 16 (f .off))) (meaning f)
   unfolding jump goesOn mayBeLast offOf
-  jump-shape is-5 no-exit =
-      jump-class is-5 (shape-either (eqb (f .opcode) 0x05)
+  jump-shape jumps no-exit =
+      jump-class jumps (λ w. shape-either (eqb (f .opcode) 0x05)
       (λ e. shape-only (eqb (f .dst) 0 && eqb (f .src) 0 && eqb (f .imm) 0) (record { shape = λ i. (rw e refl, refl) }))
       (λ e. shape-either (eqb (f .opcode) 0x95) (λ x. absurd (no-exit (eqb-true _ _ x)))
       (λ x. shape-line (f .opcode / 16) comparisons _ (λ c. shape-operand f _ (λ s. record { shape = λ i. (rw e refl, refl) })))))
@@ -167,21 +190,21 @@ module _ (program : List ℕ) (n i : ℕ) (f : Fields) (is : fields program (i *
     unfolding aimed
     nothing-is-marked on h = let s = shaped on none h in record { size = size; on = sym (s .0); targets = rw (s .1) refl }
 
-    pub no-jump : (f .opcode % 8 ≡ 5 → ⊥) → Left i (instruction program i) true m m
-    no-jump not-5 = nothing-is-marked true (other-shape f not-5)
+    pub no-jump : (not (eqb (f .opcode % 8) 5) && not (eqb (f .opcode % 8) 6)) ≡ true → Left i (instruction program i) true m m
+    no-jump neither = nothing-is-marked true (other-shape f neither)
 
     pub an-exit : f .opcode ≡ 0x95 → Left i (instruction program i) false m m
     an-exit e = nothing-is-marked false (exit-shape f e)
 
-  module _ (is-5 : f .opcode % 8 ≡ 5) (no-exit : f .opcode ≡ 0x95 → ⊥) where
+  module _ (jumps : (not (eqb (f .opcode % 8) 5) && not (eqb (f .opcode % 8) 6)) ≡ false) (no-exit : f .opcode ≡ 0x95 → ⊥) where
     pub the-target-is-inside : i + 1 + extend 16 (f .off) < n
     unfolding goesOut
     the-target-is-inside =
-        leb-false n (i + 1 + extend 16 (f .off)) (subst (λ o. goesOut n i o ≡ false) (shaped _ _ (jump-shape f is-5 no-exit) .1) (fine .stays-in))
+        leb-false n (i + 1 + extend 16 (f .off)) (subst (λ o. goesOut n i o ≡ false) (shaped _ _ (jump-shape f jumps no-exit) .1) (fine .stays-in))
 
     pub a-jump : (m m′ : List ℕ) → Marked (i + 1 + extend 16 (f .off)) m m′ → Left i (instruction program i) (not (eqb (f .opcode) 0x05)) m m′
     unfolding aimed
-    a-jump m m′ h = let s = shaped _ _ (jump-shape f is-5 no-exit) in record { size = h .size; on = sym (s .0); targets = rw (s .1) (h .targets) }
+    a-jump m m′ h = let s = shaped _ _ (jump-shape f jumps no-exit) in record { size = h .size; on = sym (s .0); targets = rw (s .1) (h .targets) }
 
 -- ---- a turn of the loop
 

@@ -76,9 +76,9 @@ module _ (n i : ℕ) where
       never false false = refl
 
   -- a target within the program has an instruction before it
-  pub tests-of-a-jump : (c : Comparison) (d : ℕ) (s : Operand) (off : ℕ) → whenJumping n i off ≡ failing n i (Jump c d s off)
+  pub tests-of-a-jump : (w : Width) (c : Comparison) (d : ℕ) (s : Operand) (off : ℕ) → whenJumping n i off ≡ failing n i (Jump w c d s off)
   unfolding failing isNoInstruction names10 writes goesBack offOf goesOut mayBeLast
-  tests-of-a-jump c d s off = ap (λ x. cond (leb (2 ^ 63) off) (some JumpsBack) x) (never (leb n (i + 1 + off)) refl)
+  tests-of-a-jump w c d s off = ap (λ x. cond (leb (2 ^ 63) off) (some JumpsBack) x) (never (leb n (i + 1 + off)) refl)
     where
       never : (a : Bool) → leb n (i + 1 + off) ≡ a → cond a (some JumpsOut) none ≡ cond (a || (eqb (i + 1) n && true)) (some JumpsOut) none
       never true e = refl
@@ -136,15 +136,15 @@ module _ (n i : ℕ) where
       ∙ one-of-two (eqb (f .opcode / 16) 8) _ _)
       ∙ code-or-none (eqb (f .off) 0) _
 
-  jumps-by-fields : (f : Fields) → jumpTests n i f ≡ failing n i (jump f)
+  jumps-by-fields : (w : Width) (f : Fields) → jumpTests n i f ≡ failing n i (jump w f)
   unfolding jumpTests jump
-  jumps-by-fields f =
+  jumps-by-fields w f =
       ap₂ (cond (eqb (f .opcode) 0x05))
       (ap (coded _) (tests-of-ja n i (extend 16 (f .off))) ∙ code-or-none _ (Always (extend 16 (f .off))))
       (ap₂ (cond (eqb (f .opcode) 0x95))
       (ap (coded _) (tests-of-an-exit n i) ∙ code-or-none _ Exit)
-      (tests-of-a-line (f .opcode / 16) comparisons (λ c. withOperand f (λ s. Jump c (f .dst) s (extend 16 (f .off)))) _
-      (λ c. tests-of-either-operand f (λ s. Jump c (f .dst) s (extend 16 (f .off))) _ (λ s. tests-of-a-jump n i c (f .dst) s (extend 16 (f .off)))))
+      (tests-of-a-line (f .opcode / 16) comparisons (λ c. withOperand f (λ s. Jump w c (f .dst) s (extend 16 (f .off)))) _
+      (λ c. tests-of-either-operand f (λ s. Jump w c (f .dst) s (extend 16 (f .off))) _ (λ s. tests-of-a-jump n i w c (f .dst) s (extend 16 (f .off)))))
       ∙ one-of-two (eqb (f .opcode) 0x95) _ _)
       ∙ one-of-two (eqb (f .opcode) 0x05) _ _
 
@@ -167,44 +167,23 @@ module _ (n i : ℕ) where
       tests-of-a-line (f .opcode) storesOfSrc (λ z. only (eqb (f .imm) 0) (Store z (f .dst) (extend 16 (f .off)) (Register (f .src)))) _
       (λ z. ap (coded (eqb (f .imm) 0)) (tests-of-a-store n i z (f .dst) (extend 16 (f .off)) _) ∙ code-or-none (eqb (f .imm) 0) _)
 
+  -- two classes with the same tests
+  either-class : (a b : Bool) (x y others : Instruction) (v t : Option Reason) → v ≡ failing n i x → v ≡ failing n i y → t ≡ failing n i others
+      → cond (a || b) v t ≡ failing n i (cond a x (cond b y others))
+  either-class true b x y others v t p q r = p
+  either-class false true x y others v t p q r = q
+  either-class false false x y others v t p q r = r
+
   classes-by-fields : (f : Fields) → classTests n i f ≡ failing n i (byClass f)
   unfolding classTests byClass failing isNoInstruction
-  classes-by-fields f = either (eqb (f .opcode % 8) 7) (eqb (f .opcode % 8) 4)
-    where
-      others : Instruction
-      others =
-          cond (eqb (f .opcode % 8) 5) (jump f)
-          (cond (eqb (f .opcode % 8) 1) (load f)
-          (cond (eqb (f .opcode % 8) 2) (storeOfImm f)
-          (cond (eqb (f .opcode % 8) 3) (storeOfSrc f)
-          NoInstruction)))
-
-      other-classes : cond (eqb (f .opcode % 8) 5) (jumpTests n i f)
-          (cond (eqb (f .opcode % 8) 1) (loadTests n i f)
-          (cond (eqb (f .opcode % 8) 2) (storeOfImmTests n i f)
-          (cond (eqb (f .opcode % 8) 3) (storeOfSrcTests n i f)
-          (some NoCode))))
-          ≡ failing n i others
-      other-classes =
-          ap₂ (cond (eqb (f .opcode % 8) 5)) (jumps-by-fields f)
-          (ap₂ (cond (eqb (f .opcode % 8) 1)) (loads-by-fields f)
-          (ap₂ (cond (eqb (f .opcode % 8) 2)) (stores-of-imm-by-fields f)
-          (ap (λ x. cond (eqb (f .opcode % 8) 3) x (some NoCode)) (stores-of-src-by-fields f) ∙ one-of-two (eqb (f .opcode % 8) 3) (storeOfSrc f) NoInstruction)
-          ∙ one-of-two (eqb (f .opcode % 8) 2) _ _)
-          ∙ one-of-two (eqb (f .opcode % 8) 1) _ _)
-          ∙ one-of-two (eqb (f .opcode % 8) 5) _ _
-
-      either : (a b : Bool)
-          → cond (a || b) (arithmeticTests n i f)
-          (cond (eqb (f .opcode % 8) 5) (jumpTests n i f)
-          (cond (eqb (f .opcode % 8) 1) (loadTests n i f)
-          (cond (eqb (f .opcode % 8) 2) (storeOfImmTests n i f)
-          (cond (eqb (f .opcode % 8) 3) (storeOfSrcTests n i f)
-          (some NoCode)))))
-          ≡ failing n i (cond a (arithmetic Long f) (cond b (arithmetic Short f) others))
-      either true b = arithmetic-by-fields Long f
-      either false true = arithmetic-by-fields Short f
-      either false false = other-classes
+  classes-by-fields f =
+      either-class (eqb (f .opcode % 8) 7) (eqb (f .opcode % 8) 4) _ _ _ _ _ (arithmetic-by-fields Long f) (arithmetic-by-fields Short f)
+      (either-class (eqb (f .opcode % 8) 5) (eqb (f .opcode % 8) 6) _ _ _ _ _ (jumps-by-fields Long f) (jumps-by-fields Short f)
+      (ap₂ (cond (eqb (f .opcode % 8) 1)) (loads-by-fields f)
+      (ap₂ (cond (eqb (f .opcode % 8) 2)) (stores-of-imm-by-fields f)
+      (ap (λ x. cond (eqb (f .opcode % 8) 3) x (some NoCode)) (stores-of-src-by-fields f) ∙ one-of-two (eqb (f .opcode % 8) 3) (storeOfSrc f) NoInstruction)
+      ∙ one-of-two (eqb (f .opcode % 8) 2) _ _)
+      ∙ one-of-two (eqb (f .opcode % 8) 1) _ _))
 
   tests-by-fields : (f : Fields) → fieldTests n i f ≡ failing n i (meaning f)
   unfolding fieldTests meaning

@@ -48,6 +48,7 @@ arithmeticTests n i f =
     (coded (eqb (f .opcode / 8 % 2) 0 && eqb (f .src) 0 && eqb (f .imm) 0) (whenWriting n i (f .dst)))
     (coded (hasLine (f .opcode / 16) operations) (withOperandTests f (whenWriting n i (f .dst)))))
 
+-- of either width
 unfoldable pub jumpTests : ℕ → ℕ → Fields → Option Reason
 jumpTests n i f =
     cond (eqb (f .opcode) 0x05) (coded (eqb (f .dst) 0 && eqb (f .src) 0 && eqb (f .imm) 0) (whenJumping n i (extend 16 (f .off))))
@@ -66,7 +67,7 @@ storeOfSrcTests n i f = coded (hasLine (f .opcode) storesOfSrc) (coded (eqb (f .
 unfoldable pub classTests : ℕ → ℕ → Fields → Option Reason
 classTests n i f =
     cond (eqb (f .opcode % 8) 7 || eqb (f .opcode % 8) 4) (arithmeticTests n i f)
-    (cond (eqb (f .opcode % 8) 5) (jumpTests n i f)
+    (cond (eqb (f .opcode % 8) 5 || eqb (f .opcode % 8) 6) (jumpTests n i f)
     (cond (eqb (f .opcode % 8) 1) (loadTests n i f)
     (cond (eqb (f .opcode % 8) 2) (storeOfImmTests n i f)
     (cond (eqb (f .opcode % 8) 3) (storeOfSrcTests n i f)

@@ -33,7 +33,7 @@ effectIn o =
 
 -- a jump counts as no instruction
 unfoldable pub withoutJumps : Instruction → Instruction
-withoutJumps (Jump c d s off) = NoInstruction
+withoutJumps (Jump w c d s off) = NoInstruction
 withoutJumps (Always off) = NoInstruction
 withoutJumps (Alu w op d s) = Alu w op d s
 withoutJumps (Neg w d) = Neg w d

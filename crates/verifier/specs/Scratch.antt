@@ -147,7 +147,7 @@ pub record Made (progress : Progress) (n : ℕ) (r : Step) (m m′ : List ℕ) :
 
 -- a jump's off no longer than the program: it leads out of the program as before, and its target is a word
 unfoldable pub shortened : ℕ → Instruction → Instruction
-shortened n (Jump c d s off) = Jump c d s (min off n)
+shortened n (Jump w c d s off) = Jump w c d s (min off n)
 shortened n (Always off) = Always (min off n)
 shortened n (Alu w op d s) = Alu w op d s
 shortened n (Neg w d) = Neg w d

@@ -129,6 +129,7 @@ fn arithmetic(n: usize, i: usize, opcode: u64, dst: u64, src: u64, off: u64, imm
     )
 }
 
+// Of either width, since JA and EXIT are told by the whole opcode.
 fn jump(n: usize, i: usize, opcode: u64, dst: u64, src: u64, off: u64, imm: u64) -> Tested
     requires { ⌜ (i < n) × (n ≤ 4096) ⌝ }
     ensures { λ r. ⌜ told r ≡ defined.jumpTests n i (record { opcode = opcode; dst = dst; src = src; off = off; imm = imm }) ⌝ }
@@ -180,8 +181,10 @@ fn by_class(n: usize, i: usize, opcode: u64, dst: u64, src: u64, off: u64, imm: 
     if (opcode % 8 == 7) | (opcode % 8 == 4) {
         return arithmetic(n, i, opcode, dst, src, off, imm);
     }
+    if (opcode % 8 == 5) | (opcode % 8 == 6) {
+        return jump(n, i, opcode, dst, src, off, imm);
+    }
     match opcode % 8 {
-        5 => jump(n, i, opcode, dst, src, off, imm),
         1 => load(n, i, opcode, dst, src, off, imm),
         2 => store_of_imm(n, i, opcode, dst, src, off, imm),
         3 => store_of_src(n, i, opcode, dst, src, off, imm),

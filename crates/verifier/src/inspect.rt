@@ -17,14 +17,15 @@ use crate::pass::target;
 use crate::scratch::register;
 use crate::send::reason_of;
 use crate::value::Held;
+use crate::ways::told_onward;
+use crate::ways::told_there;
 use analysis::Effect;
 use analysis::Gone;
 use analysis::Region;
 use analysis::Value;
-use calculator::compare::not_taken;
-use calculator::compare::taken;
 use machine::instruction::Instruction;
 use machine::instruction::Operand;
+use machine::instruction::Width;
 use machine::instruction::decode;
 use word::Comparison;
 
@@ -68,18 +69,18 @@ fn effect_of_outcome(o: Outcome) -> Effect
     }
 }
 
-fn fork_of(m: &[u64], at: usize, c: Comparison, d: u64, s: Operand, target: u64) -> Effect
+fn fork_of(m: &[u64], at: usize, w: Width, c: Comparison, d: u64, s: Operand, target: u64) -> Effect
     requires { ⌜ at + 55 ≤ length (now m) ⌝ }
     ensures { λ r. ⌜ r ≡ defined.readingBoth (valueOf (factsAt (now (m .entry)) at) d) (operandOf (factsAt (now (m .entry)) at) s)
-        (defined.fork c d s target (valueOf (factsAt (now (m .entry)) at) d) (operandOf (factsAt (now (m .entry)) at) s)) ⌝ }
+        (defined.fork w c d s target (valueOf (factsAt (now (m .entry)) at) d) (operandOf (factsAt (now (m .entry)) at) s)) ⌝ }
 {
     let x = register(m, at, d);
     let y = operand_held(m, at, s);
     if (x.kind != 2) | (y.kind != 2) {
         return Effect::Refuse(reason_of(unusable(x.kind, y.kind)));
     }
-    let onward = not_taken(c, x.number, y.number);
-    let there = taken(c, x.number, y.number);
+    let onward = told_onward(w, c, x.number, y.number);
+    let there = told_there(w, c, x.number, y.number);
     Effect::Fork {
         dst: d,
         operand: s,
@@ -96,11 +97,12 @@ fn effect_of(m: &[u64], at: usize, rlen: u64, n: u64, i: u64, ins: Instruction) 
 {
     match ins {
         Instruction::Jump {
+            width,
             comparison,
             dst,
             operand,
             off,
-        } => fork_of(m, at, comparison, dst, operand, target(n, i, off)),
+        } => fork_of(m, at, width, comparison, dst, operand, target(n, i, off)),
         Instruction::Always { off } => Effect::Goto {
             target: target(n, i, off),
         },

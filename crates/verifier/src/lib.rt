@@ -9,6 +9,7 @@ mod scratch;
 mod send;
 mod value;
 pub mod verify;
+mod ways;
 
 use analysis::Judged;
 use analysis::Reason;

@@ -40,6 +40,7 @@ fn visit(program: &[u8], n: usize, rlen: u64, m: &mut [u64], i: usize, work: u64
     let ins = decode(program, i * 8);
     match ins {
         Instruction::Jump {
+            width,
             comparison,
             dst,
             operand,
@@ -48,6 +49,7 @@ fn visit(program: &[u8], n: usize, rlen: u64, m: &mut [u64], i: usize, work: u64
             m,
             n,
             i,
+            width,
             comparison,
             dst,
             operand,

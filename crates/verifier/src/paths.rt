@@ -33,7 +33,7 @@ fn leave(program: &[u8], n: usize, i: usize, marks: &mut [u64; 64]) -> bool
     ensures { λ r. ⌜ Left i (instruction (now (program .entry)) i) r (now (marks .entry)) (now (marks .exit)) ⌝ }
 {
     let f = parts_at(program, i * 8);
-    if f.opcode % 8 != 5 {
+    if (f.opcode % 8 != 5) & (f.opcode % 8 != 6) {
         return true;
     }
     if f.opcode == 0x95 {

@@ -24,15 +24,16 @@ use crate::value::Held;
 use crate::value::Singles;
 use crate::value::join_held;
 use crate::value::plain;
+use crate::ways::is_taken;
+use crate::ways::told_onward;
+use crate::ways::told_there;
 use analysis::Reason;
 use analysis::Value;
-use calculator::compare::not_taken;
-use calculator::compare::taken;
 use machine::instruction::Operand;
+use machine::instruction::Width;
 use number::Number;
 use number::Refined;
 use word::Comparison;
-use word::by_name::compare64;
 
 fn join_register(m: &mut [u64], from: usize, to: usize)
     requires { ⌜ (from + 5 ≤ length (now m)) × (to + 5 ≤ length (now m)) ⌝ }
@@ -160,6 +161,7 @@ fn fork(
     m: &mut [u64],
     n: usize,
     i: usize,
+    w: Width,
     c: Comparison,
     d: u64,
     s: Operand,
@@ -169,7 +171,7 @@ fn fork(
     requires { ⌜ (i < n) × (i < target) × (n ≤ 4096) × (56 * n ≤ length (now m)) × (work < 1048000) ⌝ }
     ensures { λ r. ⌜ Sent (defined.distribute n i (waitingIn n (now (m .entry))) work (defined.apply (factsAt (now (m .entry)) (56 * i + 1))
         (effects.readingBoth (valueOf (factsAt (now (m .entry)) (56 * i + 1)) d) (operandOf (factsAt (now (m .entry)) (56 * i + 1)) s)
-        (effects.fork c d s target (valueOf (factsAt (now (m .entry)) (56 * i + 1)) d) (operandOf (factsAt (now (m .entry)) (56 * i + 1)) s)))))
+        (effects.fork w c d s target (valueOf (factsAt (now (m .entry)) (56 * i + 1)) d) (operandOf (factsAt (now (m .entry)) (56 * i + 1)) s)))))
         n i r (now (m .entry)) (now (m .exit)) ⌝ }
 {
     let at = 56 * i + 1;
@@ -181,12 +183,12 @@ fn fork(
             work,
         };
     }
-    let onward = not_taken(c, x.number, y.number);
+    let onward = told_onward(w, c, x.number, y.number);
     let step = send_along(m, n, i, i as u64 + 1, d, s, onward, work);
     match step {
         Step::Halt { reason, work: done } => Step::Halt { reason, work: done },
         Step::More { work: done } => {
-            let there = taken(c, x.number, y.number);
+            let there = told_there(w, c, x.number, y.number);
             send_along(m, n, i, target, d, s, there, done)
         }
     }
@@ -208,6 +210,7 @@ pub fn jump(
     m: &mut [u64],
     n: usize,
     i: usize,
+    w: Width,
     c: Comparison,
     d: u64,
     s: Operand,
@@ -217,14 +220,14 @@ pub fn jump(
     requires { ⌜ (i < n) × (i < target) × (n ≤ 4096) × (56 * n ≤ length (now m)) × (work < 1048000) ⌝ }
     ensures { λ r. ⌜ Sent (defined.distribute n i (waitingIn n (now (m .entry))) work (defined.apply (factsAt (now (m .entry)) (56 * i + 1))
         (effects.readingBoth (valueOf (factsAt (now (m .entry)) (56 * i + 1)) d) (operandOf (factsAt (now (m .entry)) (56 * i + 1)) s)
-        (effects.fork c d s target (valueOf (factsAt (now (m .entry)) (56 * i + 1)) d) (operandOf (factsAt (now (m .entry)) (56 * i + 1)) s)))))
+        (effects.fork w c d s target (valueOf (factsAt (now (m .entry)) (56 * i + 1)) d) (operandOf (factsAt (now (m .entry)) (56 * i + 1)) s)))))
         n i r (now (m .entry)) (now (m .exit)) ⌝ }
 {
     match singles_at(m, 56 * i + 1, d, s) {
         Singles::Both { first, second } => {
-            turn(m, n, i, compare64(c, first, second), target, work)
+            turn(m, n, i, is_taken(w, c, first, second), target, work)
         }
-        Singles::Open => fork(m, n, i, c, d, s, target, work),
+        Singles::Open => fork(m, n, i, w, c, d, s, target, work),
     }
 }
 

@@ -30,6 +30,17 @@ use crate::arithmetic64::or64;
 use crate::arithmetic64::rsh64;
 use crate::arithmetic64::sub64;
 use crate::arithmetic64::xor64;
+use crate::order32::eq32;
+use crate::order32::ge32;
+use crate::order32::gt32;
+use crate::order32::le32;
+use crate::order32::lt32;
+use crate::order32::ne32;
+use crate::order32::set32;
+use crate::order32::sge32;
+use crate::order32::sgt32;
+use crate::order32::sle32;
+use crate::order32::slt32;
 use crate::order64::eq64;
 use crate::order64::ge64;
 use crate::order64::gt64;
@@ -97,5 +108,23 @@ pub fn compare64(c: Comparison, d: u64, s: u64) -> bool
         Comparison::Le => le64(d, s),
         Comparison::Slt => slt64(d, s),
         Comparison::Sle => sle64(d, s),
+    }
+}
+
+pub fn compare32(c: Comparison, d: u64, s: u64) -> bool
+    ensures { λ r. ⌜ r ≡ defined.compare 32 c d s ⌝ }
+{
+    match c {
+        Comparison::Eq => eq32(d, s),
+        Comparison::Gt => gt32(d, s),
+        Comparison::Ge => ge32(d, s),
+        Comparison::Set => set32(d, s),
+        Comparison::Ne => ne32(d, s),
+        Comparison::Sgt => sgt32(d, s),
+        Comparison::Sge => sge32(d, s),
+        Comparison::Lt => lt32(d, s),
+        Comparison::Le => le32(d, s),
+        Comparison::Slt => slt32(d, s),
+        Comparison::Sle => sle32(d, s),
     }
 }

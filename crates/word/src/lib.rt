@@ -3,6 +3,7 @@
 pub mod arithmetic32;
 pub mod arithmetic64;
 pub mod by_name;
+pub mod order32;
 pub mod order64;
 pub mod sign;
 

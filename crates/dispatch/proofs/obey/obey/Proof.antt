@@ -21,12 +21,13 @@ use Rattle.dispatch.proofs.obey.obey.Tie as tie
 -- the opcodes in the order of the arms
 abbrev keys : List ℕ
 keys =
-    0x07 ∷ 0x0f ∷ 0x17 ∷ 0x1f ∷ 0x27 ∷ 0x2f ∷ 0x37 ∷ 0x3f ∷ 0x47 ∷ 0x4f ∷ 0x57 ∷ 0x5f ∷ 0x67 ∷ 0x6f ∷ 0x77 ∷ 0x7f
-    ∷ 0x87 ∷ 0x97 ∷ 0x9f ∷ 0xa7 ∷ 0xaf ∷ 0xb7 ∷ 0xbf ∷ 0xc7 ∷ 0xcf ∷ 0x04 ∷ 0x0c ∷ 0x14 ∷ 0x1c ∷ 0x24 ∷ 0x2c ∷
-    0x34 ∷ 0x3c ∷ 0x44 ∷ 0x4c ∷ 0x54 ∷ 0x5c ∷ 0x64 ∷ 0x6c ∷ 0x74 ∷ 0x7c ∷ 0x84 ∷ 0x94 ∷ 0x9c ∷ 0xa4 ∷ 0xac ∷ 0xb4
-    ∷ 0xbc ∷ 0xc4 ∷ 0xcc ∷ 0x05 ∷ 0x95 ∷ 0x15 ∷ 0x1d ∷ 0x25 ∷ 0x2d ∷ 0x35 ∷ 0x3d ∷ 0x45 ∷ 0x4d ∷ 0x55 ∷ 0x5d ∷
-    0x65 ∷ 0x6d ∷ 0x75 ∷ 0x7d ∷ 0xa5 ∷ 0xad ∷ 0xb5 ∷ 0xbd ∷ 0xc5 ∷ 0xcd ∷ 0xd5 ∷ 0xdd ∷ 0x71 ∷ 0x69 ∷ 0x61 ∷ 0x79
-    ∷ 0x72 ∷ 0x6a ∷ 0x62 ∷ 0x7a ∷ 0x73 ∷ 0x6b ∷ 0x63 ∷ 0x7b ∷ []
+    0x07 ∷ 0x0f ∷ 0x17 ∷ 0x1f ∷ 0x27 ∷ 0x2f ∷ 0x37 ∷ 0x3f ∷ 0x47 ∷ 0x4f ∷ 0x57 ∷ 0x5f ∷ 0x67 ∷ 0x6f ∷ 0x77 ∷ 0x7f ∷
+    0x87 ∷ 0x97 ∷ 0x9f ∷ 0xa7 ∷ 0xaf ∷ 0xb7 ∷ 0xbf ∷ 0xc7 ∷ 0xcf ∷ 0x04 ∷ 0x0c ∷ 0x14 ∷ 0x1c ∷ 0x24 ∷ 0x2c ∷ 0x34 ∷
+    0x3c ∷ 0x44 ∷ 0x4c ∷ 0x54 ∷ 0x5c ∷ 0x64 ∷ 0x6c ∷ 0x74 ∷ 0x7c ∷ 0x84 ∷ 0x94 ∷ 0x9c ∷ 0xa4 ∷ 0xac ∷ 0xb4 ∷ 0xbc ∷
+    0xc4 ∷ 0xcc ∷ 0x05 ∷ 0x95 ∷ 0x15 ∷ 0x1d ∷ 0x25 ∷ 0x2d ∷ 0x35 ∷ 0x3d ∷ 0x45 ∷ 0x4d ∷ 0x55 ∷ 0x5d ∷ 0x65 ∷ 0x6d ∷
+    0x75 ∷ 0x7d ∷ 0xa5 ∷ 0xad ∷ 0xb5 ∷ 0xbd ∷ 0xc5 ∷ 0xcd ∷ 0xd5 ∷ 0xdd ∷ 0x16 ∷ 0x1e ∷ 0x26 ∷ 0x2e ∷ 0x36 ∷ 0x3e ∷
+    0x46 ∷ 0x4e ∷ 0x56 ∷ 0x5e ∷ 0x66 ∷ 0x6e ∷ 0x76 ∷ 0x7e ∷ 0xa6 ∷ 0xae ∷ 0xb6 ∷ 0xbe ∷ 0xc6 ∷ 0xce ∷ 0xd6 ∷ 0xde ∷
+    0x71 ∷ 0x69 ∷ 0x61 ∷ 0x79 ∷ 0x72 ∷ 0x6a ∷ 0x62 ∷ 0x7a ∷ 0x73 ∷ 0x6b ∷ 0x63 ∷ 0x7b ∷ []
 
 -- the opcode alone is no instruction
 undecoded : ℕ → Bool
@@ -243,143 +244,231 @@ returns-52 c = ending _ _ _ _ _ _ _ _ _ _ (c .before .before .before .before .be
 
 returns-53 : tie.Need-returns-53
 unfolding bits readsDst only lookup withOperand operations arithmetic comparisons jump loads storesOfImm storesOfSrc load storeOfImm storeOfSrc byClass
-returns-53 c = jump-immediate _ _ _ _ _ _ _ _ _ _ (c .before .before .before .before .before .before .before .pre .1 .0 .mask-low) _ Eq _ _ (c .before .before .before .match .keys53) refl (c .before .before .before .before .extend32 .ensures) (c .before .eq64 .ensures) (c .jump-immediate .ensures (c .before .before .before .before .before .before .before .args .regs .now) (c .before .before .before .before .before .before .before .args .stack .now) (c .before .before .before .before .before .before .before .pre .0))
+returns-53 c = jump-immediate _ _ _ _ _ _ _ _ _ _ (c .before .before .before .before .before .before .before .pre .1 .0 .mask-low) _ Long Eq _ _ (c .before .before .before .match .keys53) refl (c .before .before .before .before .extend32 .ensures) (c .before .eq64 .ensures) (c .jump-immediate .ensures (c .before .before .before .before .before .before .before .args .regs .now) (c .before .before .before .before .before .before .before .args .stack .now) (c .before .before .before .before .before .before .before .pre .0))
 
 returns-54 : tie.Need-returns-54
 unfolding bits readsDst only lookup withOperand operations arithmetic comparisons jump loads storesOfImm storesOfSrc load storeOfImm storeOfSrc byClass
-returns-54 c = jump-register _ _ _ _ _ _ _ _ _ _ (c .before .before .before .before .before .before .before .before .pre .1 .0 .mask-low) _ Eq _ (c .before .before .before .before .match .keys54) refl (c .before .eq642 .ensures) (c .jump-register .ensures (c .before .before .before .before .before .before .before .before .args .regs .now) (c .before .before .before .before .before .before .before .before .args .stack .now) (c .before .before .before .before .before .before .before .before .pre .0))
+returns-54 c = jump-register _ _ _ _ _ _ _ _ _ _ (c .before .before .before .before .before .before .before .before .pre .1 .0 .mask-low) _ Long Eq _ (c .before .before .before .before .match .keys54) refl (c .before .eq642 .ensures) (c .jump-register .ensures (c .before .before .before .before .before .before .before .before .args .regs .now) (c .before .before .before .before .before .before .before .before .args .stack .now) (c .before .before .before .before .before .before .before .before .pre .0))
 
 returns-55 : tie.Need-returns-55
 unfolding bits readsDst only lookup withOperand operations arithmetic comparisons jump loads storesOfImm storesOfSrc load storeOfImm storeOfSrc byClass
-returns-55 c = jump-immediate _ _ _ _ _ _ _ _ _ _ (c .before .before .before .before .before .before .before .pre .1 .0 .mask-low) _ Gt _ _ (c .before .before .before .match .keys55) refl (c .before .before .before .before .extend32 .ensures) (c .before .gt64 .ensures) (c .jump-immediate2 .ensures (c .before .before .before .before .before .before .before .args .regs .now) (c .before .before .before .before .before .before .before .args .stack .now) (c .before .before .before .before .before .before .before .pre .0))
+returns-55 c = jump-immediate _ _ _ _ _ _ _ _ _ _ (c .before .before .before .before .before .before .before .pre .1 .0 .mask-low) _ Long Gt _ _ (c .before .before .before .match .keys55) refl (c .before .before .before .before .extend32 .ensures) (c .before .gt64 .ensures) (c .jump-immediate2 .ensures (c .before .before .before .before .before .before .before .args .regs .now) (c .before .before .before .before .before .before .before .args .stack .now) (c .before .before .before .before .before .before .before .pre .0))
 
 returns-56 : tie.Need-returns-56
 unfolding bits readsDst only lookup withOperand operations arithmetic comparisons jump loads storesOfImm storesOfSrc load storeOfImm storeOfSrc byClass
-returns-56 c = jump-register _ _ _ _ _ _ _ _ _ _ (c .before .before .before .before .before .before .before .before .pre .1 .0 .mask-low) _ Gt _ (c .before .before .before .before .match .keys56) refl (c .before .gt642 .ensures) (c .jump-register2 .ensures (c .before .before .before .before .before .before .before .before .args .regs .now) (c .before .before .before .before .before .before .before .before .args .stack .now) (c .before .before .before .before .before .before .before .before .pre .0))
+returns-56 c = jump-register _ _ _ _ _ _ _ _ _ _ (c .before .before .before .before .before .before .before .before .pre .1 .0 .mask-low) _ Long Gt _ (c .before .before .before .before .match .keys56) refl (c .before .gt642 .ensures) (c .jump-register2 .ensures (c .before .before .before .before .before .before .before .before .args .regs .now) (c .before .before .before .before .before .before .before .before .args .stack .now) (c .before .before .before .before .before .before .before .before .pre .0))
 
 returns-57 : tie.Need-returns-57
 unfolding bits readsDst only lookup withOperand operations arithmetic comparisons jump loads storesOfImm storesOfSrc load storeOfImm storeOfSrc byClass
-returns-57 c = jump-immediate _ _ _ _ _ _ _ _ _ _ (c .before .before .before .before .before .before .before .pre .1 .0 .mask-low) _ Ge _ _ (c .before .before .before .match .keys57) refl (c .before .before .before .before .extend32 .ensures) (c .before .ge64 .ensures) (c .jump-immediate3 .ensures (c .before .before .before .before .before .before .before .args .regs .now) (c .before .before .before .before .before .before .before .args .stack .now) (c .before .before .before .before .before .before .before .pre .0))
+returns-57 c = jump-immediate _ _ _ _ _ _ _ _ _ _ (c .before .before .before .before .before .before .before .pre .1 .0 .mask-low) _ Long Ge _ _ (c .before .before .before .match .keys57) refl (c .before .before .before .before .extend32 .ensures) (c .before .ge64 .ensures) (c .jump-immediate3 .ensures (c .before .before .before .before .before .before .before .args .regs .now) (c .before .before .before .before .before .before .before .args .stack .now) (c .before .before .before .before .before .before .before .pre .0))
 
 returns-58 : tie.Need-returns-58
 unfolding bits readsDst only lookup withOperand operations arithmetic comparisons jump loads storesOfImm storesOfSrc load storeOfImm storeOfSrc byClass
-returns-58 c = jump-register _ _ _ _ _ _ _ _ _ _ (c .before .before .before .before .before .before .before .before .pre .1 .0 .mask-low) _ Ge _ (c .before .before .before .before .match .keys58) refl (c .before .ge642 .ensures) (c .jump-register3 .ensures (c .before .before .before .before .before .before .before .before .args .regs .now) (c .before .before .before .before .before .before .before .before .args .stack .now) (c .before .before .before .before .before .before .before .before .pre .0))
+returns-58 c = jump-register _ _ _ _ _ _ _ _ _ _ (c .before .before .before .before .before .before .before .before .pre .1 .0 .mask-low) _ Long Ge _ (c .before .before .before .before .match .keys58) refl (c .before .ge642 .ensures) (c .jump-register3 .ensures (c .before .before .before .before .before .before .before .before .args .regs .now) (c .before .before .before .before .before .before .before .before .args .stack .now) (c .before .before .before .before .before .before .before .before .pre .0))
 
 returns-59 : tie.Need-returns-59
 unfolding bits readsDst only lookup withOperand operations arithmetic comparisons jump loads storesOfImm storesOfSrc load storeOfImm storeOfSrc byClass
-returns-59 c = jump-immediate _ _ _ _ _ _ _ _ _ _ (c .before .before .before .before .before .before .before .pre .1 .0 .mask-low) _ Set _ _ (c .before .before .before .match .keys59) refl (c .before .before .before .before .extend32 .ensures) (c .before .set64 .ensures) (c .jump-immediate4 .ensures (c .before .before .before .before .before .before .before .args .regs .now) (c .before .before .before .before .before .before .before .args .stack .now) (c .before .before .before .before .before .before .before .pre .0))
+returns-59 c = jump-immediate _ _ _ _ _ _ _ _ _ _ (c .before .before .before .before .before .before .before .pre .1 .0 .mask-low) _ Long Set _ _ (c .before .before .before .match .keys59) refl (c .before .before .before .before .extend32 .ensures) (c .before .set64 .ensures) (c .jump-immediate4 .ensures (c .before .before .before .before .before .before .before .args .regs .now) (c .before .before .before .before .before .before .before .args .stack .now) (c .before .before .before .before .before .before .before .pre .0))
 
 returns-60 : tie.Need-returns-60
 unfolding bits readsDst only lookup withOperand operations arithmetic comparisons jump loads storesOfImm storesOfSrc load storeOfImm storeOfSrc byClass
-returns-60 c = jump-register _ _ _ _ _ _ _ _ _ _ (c .before .before .before .before .before .before .before .before .pre .1 .0 .mask-low) _ Set _ (c .before .before .before .before .match .keys60) refl (c .before .set642 .ensures) (c .jump-register4 .ensures (c .before .before .before .before .before .before .before .before .args .regs .now) (c .before .before .before .before .before .before .before .before .args .stack .now) (c .before .before .before .before .before .before .before .before .pre .0))
+returns-60 c = jump-register _ _ _ _ _ _ _ _ _ _ (c .before .before .before .before .before .before .before .before .pre .1 .0 .mask-low) _ Long Set _ (c .before .before .before .before .match .keys60) refl (c .before .set642 .ensures) (c .jump-register4 .ensures (c .before .before .before .before .before .before .before .before .args .regs .now) (c .before .before .before .before .before .before .before .before .args .stack .now) (c .before .before .before .before .before .before .before .before .pre .0))
 
 returns-61 : tie.Need-returns-61
 unfolding bits readsDst only lookup withOperand operations arithmetic comparisons jump loads storesOfImm storesOfSrc load storeOfImm storeOfSrc byClass
-returns-61 c = jump-immediate _ _ _ _ _ _ _ _ _ _ (c .before .before .before .before .before .before .before .pre .1 .0 .mask-low) _ Ne _ _ (c .before .before .before .match .keys61) refl (c .before .before .before .before .extend32 .ensures) (c .before .ne64 .ensures) (c .jump-immediate5 .ensures (c .before .before .before .before .before .before .before .args .regs .now) (c .before .before .before .before .before .before .before .args .stack .now) (c .before .before .before .before .before .before .before .pre .0))
+returns-61 c = jump-immediate _ _ _ _ _ _ _ _ _ _ (c .before .before .before .before .before .before .before .pre .1 .0 .mask-low) _ Long Ne _ _ (c .before .before .before .match .keys61) refl (c .before .before .before .before .extend32 .ensures) (c .before .ne64 .ensures) (c .jump-immediate5 .ensures (c .before .before .before .before .before .before .before .args .regs .now) (c .before .before .before .before .before .before .before .args .stack .now) (c .before .before .before .before .before .before .before .pre .0))
 
 returns-62 : tie.Need-returns-62
 unfolding bits readsDst only lookup withOperand operations arithmetic comparisons jump loads storesOfImm storesOfSrc load storeOfImm storeOfSrc byClass
-returns-62 c = jump-register _ _ _ _ _ _ _ _ _ _ (c .before .before .before .before .before .before .before .before .pre .1 .0 .mask-low) _ Ne _ (c .before .before .before .before .match .keys62) refl (c .before .ne642 .ensures) (c .jump-register5 .ensures (c .before .before .before .before .before .before .before .before .args .regs .now) (c .before .before .before .before .before .before .before .before .args .stack .now) (c .before .before .before .before .before .before .before .before .pre .0))
+returns-62 c = jump-register _ _ _ _ _ _ _ _ _ _ (c .before .before .before .before .before .before .before .before .pre .1 .0 .mask-low) _ Long Ne _ (c .before .before .before .before .match .keys62) refl (c .before .ne642 .ensures) (c .jump-register5 .ensures (c .before .before .before .before .before .before .before .before .args .regs .now) (c .before .before .before .before .before .before .before .before .args .stack .now) (c .before .before .before .before .before .before .before .before .pre .0))
 
 returns-63 : tie.Need-returns-63
 unfolding bits readsDst only lookup withOperand operations arithmetic comparisons jump loads storesOfImm storesOfSrc load storeOfImm storeOfSrc byClass
-returns-63 c = jump-immediate _ _ _ _ _ _ _ _ _ _ (c .before .before .before .before .before .before .before .pre .1 .0 .mask-low) _ Sgt _ _ (c .before .before .before .match .keys63) refl (c .before .before .before .before .extend32 .ensures) (c .before .sgt64 .ensures) (c .jump-immediate6 .ensures (c .before .before .before .before .before .before .before .args .regs .now) (c .before .before .before .before .before .before .before .args .stack .now) (c .before .before .before .before .before .before .before .pre .0))
+returns-63 c = jump-immediate _ _ _ _ _ _ _ _ _ _ (c .before .before .before .before .before .before .before .pre .1 .0 .mask-low) _ Long Sgt _ _ (c .before .before .before .match .keys63) refl (c .before .before .before .before .extend32 .ensures) (c .before .sgt64 .ensures) (c .jump-immediate6 .ensures (c .before .before .before .before .before .before .before .args .regs .now) (c .before .before .before .before .before .before .before .args .stack .now) (c .before .before .before .before .before .before .before .pre .0))
 
 returns-64 : tie.Need-returns-64
 unfolding bits readsDst only lookup withOperand operations arithmetic comparisons jump loads storesOfImm storesOfSrc load storeOfImm storeOfSrc byClass
-returns-64 c = jump-register _ _ _ _ _ _ _ _ _ _ (c .before .before .before .before .before .before .before .before .pre .1 .0 .mask-low) _ Sgt _ (c .before .before .before .before .match .keys64) refl (c .before .sgt642 .ensures) (c .jump-register6 .ensures (c .before .before .before .before .before .before .before .before .args .regs .now) (c .before .before .before .before .before .before .before .before .args .stack .now) (c .before .before .before .before .before .before .before .before .pre .0))
+returns-64 c = jump-register _ _ _ _ _ _ _ _ _ _ (c .before .before .before .before .before .before .before .before .pre .1 .0 .mask-low) _ Long Sgt _ (c .before .before .before .before .match .keys64) refl (c .before .sgt642 .ensures) (c .jump-register6 .ensures (c .before .before .before .before .before .before .before .before .args .regs .now) (c .before .before .before .before .before .before .before .before .args .stack .now) (c .before .before .before .before .before .before .before .before .pre .0))
 
 returns-65 : tie.Need-returns-65
 unfolding bits readsDst only lookup withOperand operations arithmetic comparisons jump loads storesOfImm storesOfSrc load storeOfImm storeOfSrc byClass
-returns-65 c = jump-immediate _ _ _ _ _ _ _ _ _ _ (c .before .before .before .before .before .before .before .pre .1 .0 .mask-low) _ Sge _ _ (c .before .before .before .match .keys65) refl (c .before .before .before .before .extend32 .ensures) (c .before .sge64 .ensures) (c .jump-immediate7 .ensures (c .before .before .before .before .before .before .before .args .regs .now) (c .before .before .before .before .before .before .before .args .stack .now) (c .before .before .before .before .before .before .before .pre .0))
+returns-65 c = jump-immediate _ _ _ _ _ _ _ _ _ _ (c .before .before .before .before .before .before .before .pre .1 .0 .mask-low) _ Long Sge _ _ (c .before .before .before .match .keys65) refl (c .before .before .before .before .extend32 .ensures) (c .before .sge64 .ensures) (c .jump-immediate7 .ensures (c .before .before .before .before .before .before .before .args .regs .now) (c .before .before .before .before .before .before .before .args .stack .now) (c .before .before .before .before .before .before .before .pre .0))
 
 returns-66 : tie.Need-returns-66
 unfolding bits readsDst only lookup withOperand operations arithmetic comparisons jump loads storesOfImm storesOfSrc load storeOfImm storeOfSrc byClass
-returns-66 c = jump-register _ _ _ _ _ _ _ _ _ _ (c .before .before .before .before .before .before .before .before .pre .1 .0 .mask-low) _ Sge _ (c .before .before .before .before .match .keys66) refl (c .before .sge642 .ensures) (c .jump-register7 .ensures (c .before .before .before .before .before .before .before .before .args .regs .now) (c .before .before .before .before .before .before .before .before .args .stack .now) (c .before .before .before .before .before .before .before .before .pre .0))
+returns-66 c = jump-register _ _ _ _ _ _ _ _ _ _ (c .before .before .before .before .before .before .before .before .pre .1 .0 .mask-low) _ Long Sge _ (c .before .before .before .before .match .keys66) refl (c .before .sge642 .ensures) (c .jump-register7 .ensures (c .before .before .before .before .before .before .before .before .args .regs .now) (c .before .before .before .before .before .before .before .before .args .stack .now) (c .before .before .before .before .before .before .before .before .pre .0))
 
 returns-67 : tie.Need-returns-67
 unfolding bits readsDst only lookup withOperand operations arithmetic comparisons jump loads storesOfImm storesOfSrc load storeOfImm storeOfSrc byClass
-returns-67 c = jump-immediate _ _ _ _ _ _ _ _ _ _ (c .before .before .before .before .before .before .before .pre .1 .0 .mask-low) _ Lt _ _ (c .before .before .before .match .keys67) refl (c .before .before .before .before .extend32 .ensures) (c .before .lt64 .ensures) (c .jump-immediate8 .ensures (c .before .before .before .before .before .before .before .args .regs .now) (c .before .before .before .before .before .before .before .args .stack .now) (c .before .before .before .before .before .before .before .pre .0))
+returns-67 c = jump-immediate _ _ _ _ _ _ _ _ _ _ (c .before .before .before .before .before .before .before .pre .1 .0 .mask-low) _ Long Lt _ _ (c .before .before .before .match .keys67) refl (c .before .before .before .before .extend32 .ensures) (c .before .lt64 .ensures) (c .jump-immediate8 .ensures (c .before .before .before .before .before .before .before .args .regs .now) (c .before .before .before .before .before .before .before .args .stack .now) (c .before .before .before .before .before .before .before .pre .0))
 
 returns-68 : tie.Need-returns-68
 unfolding bits readsDst only lookup withOperand operations arithmetic comparisons jump loads storesOfImm storesOfSrc load storeOfImm storeOfSrc byClass
-returns-68 c = jump-register _ _ _ _ _ _ _ _ _ _ (c .before .before .before .before .before .before .before .before .pre .1 .0 .mask-low) _ Lt _ (c .before .before .before .before .match .keys68) refl (c .before .lt642 .ensures) (c .jump-register8 .ensures (c .before .before .before .before .before .before .before .before .args .regs .now) (c .before .before .before .before .before .before .before .before .args .stack .now) (c .before .before .before .before .before .before .before .before .pre .0))
+returns-68 c = jump-register _ _ _ _ _ _ _ _ _ _ (c .before .before .before .before .before .before .before .before .pre .1 .0 .mask-low) _ Long Lt _ (c .before .before .before .before .match .keys68) refl (c .before .lt642 .ensures) (c .jump-register8 .ensures (c .before .before .before .before .before .before .before .before .args .regs .now) (c .before .before .before .before .before .before .before .before .args .stack .now) (c .before .before .before .before .before .before .before .before .pre .0))
 
 returns-69 : tie.Need-returns-69
 unfolding bits readsDst only lookup withOperand operations arithmetic comparisons jump loads storesOfImm storesOfSrc load storeOfImm storeOfSrc byClass
-returns-69 c = jump-immediate _ _ _ _ _ _ _ _ _ _ (c .before .before .before .before .before .before .before .pre .1 .0 .mask-low) _ Le _ _ (c .before .before .before .match .keys69) refl (c .before .before .before .before .extend32 .ensures) (c .before .le64 .ensures) (c .jump-immediate9 .ensures (c .before .before .before .before .before .before .before .args .regs .now) (c .before .before .before .before .before .before .before .args .stack .now) (c .before .before .before .before .before .before .before .pre .0))
+returns-69 c = jump-immediate _ _ _ _ _ _ _ _ _ _ (c .before .before .before .before .before .before .before .pre .1 .0 .mask-low) _ Long Le _ _ (c .before .before .before .match .keys69) refl (c .before .before .before .before .extend32 .ensures) (c .before .le64 .ensures) (c .jump-immediate9 .ensures (c .before .before .before .before .before .before .before .args .regs .now) (c .before .before .before .before .before .before .before .args .stack .now) (c .before .before .before .before .before .before .before .pre .0))
 
 returns-70 : tie.Need-returns-70
 unfolding bits readsDst only lookup withOperand operations arithmetic comparisons jump loads storesOfImm storesOfSrc load storeOfImm storeOfSrc byClass
-returns-70 c = jump-register _ _ _ _ _ _ _ _ _ _ (c .before .before .before .before .before .before .before .before .pre .1 .0 .mask-low) _ Le _ (c .before .before .before .before .match .keys70) refl (c .before .le642 .ensures) (c .jump-register9 .ensures (c .before .before .before .before .before .before .before .before .args .regs .now) (c .before .before .before .before .before .before .before .before .args .stack .now) (c .before .before .before .before .before .before .before .before .pre .0))
+returns-70 c = jump-register _ _ _ _ _ _ _ _ _ _ (c .before .before .before .before .before .before .before .before .pre .1 .0 .mask-low) _ Long Le _ (c .before .before .before .before .match .keys70) refl (c .before .le642 .ensures) (c .jump-register9 .ensures (c .before .before .before .before .before .before .before .before .args .regs .now) (c .before .before .before .before .before .before .before .before .args .stack .now) (c .before .before .before .before .before .before .before .before .pre .0))
 
 returns-71 : tie.Need-returns-71
 unfolding bits readsDst only lookup withOperand operations arithmetic comparisons jump loads storesOfImm storesOfSrc load storeOfImm storeOfSrc byClass
-returns-71 c = jump-immediate _ _ _ _ _ _ _ _ _ _ (c .before .before .before .before .before .before .before .pre .1 .0 .mask-low) _ Slt _ _ (c .before .before .before .match .keys71) refl (c .before .before .before .before .extend32 .ensures) (c .before .slt64 .ensures) (c .jump-immediate10 .ensures (c .before .before .before .before .before .before .before .args .regs .now) (c .before .before .before .before .before .before .before .args .stack .now) (c .before .before .before .before .before .before .before .pre .0))
+returns-71 c = jump-immediate _ _ _ _ _ _ _ _ _ _ (c .before .before .before .before .before .before .before .pre .1 .0 .mask-low) _ Long Slt _ _ (c .before .before .before .match .keys71) refl (c .before .before .before .before .extend32 .ensures) (c .before .slt64 .ensures) (c .jump-immediate10 .ensures (c .before .before .before .before .before .before .before .args .regs .now) (c .before .before .before .before .before .before .before .args .stack .now) (c .before .before .before .before .before .before .before .pre .0))
 
 returns-72 : tie.Need-returns-72
 unfolding bits readsDst only lookup withOperand operations arithmetic comparisons jump loads storesOfImm storesOfSrc load storeOfImm storeOfSrc byClass
-returns-72 c = jump-register _ _ _ _ _ _ _ _ _ _ (c .before .before .before .before .before .before .before .before .pre .1 .0 .mask-low) _ Slt _ (c .before .before .before .before .match .keys72) refl (c .before .slt642 .ensures) (c .jump-register10 .ensures (c .before .before .before .before .before .before .before .before .args .regs .now) (c .before .before .before .before .before .before .before .before .args .stack .now) (c .before .before .before .before .before .before .before .before .pre .0))
+returns-72 c = jump-register _ _ _ _ _ _ _ _ _ _ (c .before .before .before .before .before .before .before .before .pre .1 .0 .mask-low) _ Long Slt _ (c .before .before .before .before .match .keys72) refl (c .before .slt642 .ensures) (c .jump-register10 .ensures (c .before .before .before .before .before .before .before .before .args .regs .now) (c .before .before .before .before .before .before .before .before .args .stack .now) (c .before .before .before .before .before .before .before .before .pre .0))
 
 returns-73 : tie.Need-returns-73
 unfolding bits readsDst only lookup withOperand operations arithmetic comparisons jump loads storesOfImm storesOfSrc load storeOfImm storeOfSrc byClass
-returns-73 c = jump-immediate _ _ _ _ _ _ _ _ _ _ (c .before .before .before .before .before .before .before .pre .1 .0 .mask-low) _ Sle _ _ (c .before .before .before .match .keys73) refl (c .before .before .before .before .extend32 .ensures) (c .before .sle64 .ensures) (c .jump-immediate11 .ensures (c .before .before .before .before .before .before .before .args .regs .now) (c .before .before .before .before .before .before .before .args .stack .now) (c .before .before .before .before .before .before .before .pre .0))
+returns-73 c = jump-immediate _ _ _ _ _ _ _ _ _ _ (c .before .before .before .before .before .before .before .pre .1 .0 .mask-low) _ Long Sle _ _ (c .before .before .before .match .keys73) refl (c .before .before .before .before .extend32 .ensures) (c .before .sle64 .ensures) (c .jump-immediate11 .ensures (c .before .before .before .before .before .before .before .args .regs .now) (c .before .before .before .before .before .before .before .args .stack .now) (c .before .before .before .before .before .before .before .pre .0))
 
 returns-74 : tie.Need-returns-74
 unfolding bits readsDst only lookup withOperand operations arithmetic comparisons jump loads storesOfImm storesOfSrc load storeOfImm storeOfSrc byClass
-returns-74 c = jump-register _ _ _ _ _ _ _ _ _ _ (c .before .before .before .before .before .before .before .before .pre .1 .0 .mask-low) _ Sle _ (c .before .before .before .before .match .keys74) refl (c .before .sle642 .ensures) (c .jump-register11 .ensures (c .before .before .before .before .before .before .before .before .args .regs .now) (c .before .before .before .before .before .before .before .before .args .stack .now) (c .before .before .before .before .before .before .before .before .pre .0))
+returns-74 c = jump-register _ _ _ _ _ _ _ _ _ _ (c .before .before .before .before .before .before .before .before .pre .1 .0 .mask-low) _ Long Sle _ (c .before .before .before .before .match .keys74) refl (c .before .sle642 .ensures) (c .jump-register11 .ensures (c .before .before .before .before .before .before .before .before .args .regs .now) (c .before .before .before .before .before .before .before .before .args .stack .now) (c .before .before .before .before .before .before .before .before .pre .0))
 
 returns-75 : tie.Need-returns-75
 unfolding bits readsDst only lookup withOperand operations arithmetic comparisons jump loads storesOfImm storesOfSrc load storeOfImm storeOfSrc byClass
-returns-75 c = loading _ _ _ _ _ _ _ _ _ _ (c .before .before .before .before .before .before .before .before .pre .1 .0 .mask-low) _ One (c .before .before .before .before .match .keys75) refl (c .load-into .ensures)
+returns-75 c = jump-immediate _ _ _ _ _ _ _ _ _ _ (c .before .before .before .before .before .before .before .pre .1 .0 .mask-low) _ Short Eq _ _ (c .before .before .before .match .keys75) refl (c .before .before .before .before .extend32 .ensures) (c .before .eq32 .ensures) (c .jump-immediate12 .ensures (c .before .before .before .before .before .before .before .args .regs .now) (c .before .before .before .before .before .before .before .args .stack .now) (c .before .before .before .before .before .before .before .pre .0))
 
 returns-76 : tie.Need-returns-76
 unfolding bits readsDst only lookup withOperand operations arithmetic comparisons jump loads storesOfImm storesOfSrc load storeOfImm storeOfSrc byClass
-returns-76 c = loading _ _ _ _ _ _ _ _ _ _ (c .before .before .before .before .before .before .before .before .pre .1 .0 .mask-low) _ Two (c .before .before .before .before .match .keys76) refl (c .load-into2 .ensures)
+returns-76 c = jump-register _ _ _ _ _ _ _ _ _ _ (c .before .before .before .before .before .before .before .before .pre .1 .0 .mask-low) _ Short Eq _ (c .before .before .before .before .match .keys76) refl (c .before .eq322 .ensures) (c .jump-register12 .ensures (c .before .before .before .before .before .before .before .before .args .regs .now) (c .before .before .before .before .before .before .before .before .args .stack .now) (c .before .before .before .before .before .before .before .before .pre .0))
 
 returns-77 : tie.Need-returns-77
 unfolding bits readsDst only lookup withOperand operations arithmetic comparisons jump loads storesOfImm storesOfSrc load storeOfImm storeOfSrc byClass
-returns-77 c = loading _ _ _ _ _ _ _ _ _ _ (c .before .before .before .before .before .before .before .before .pre .1 .0 .mask-low) _ Four (c .before .before .before .before .match .keys77) refl (c .load-into3 .ensures)
+returns-77 c = jump-immediate _ _ _ _ _ _ _ _ _ _ (c .before .before .before .before .before .before .before .pre .1 .0 .mask-low) _ Short Gt _ _ (c .before .before .before .match .keys77) refl (c .before .before .before .before .extend32 .ensures) (c .before .gt32 .ensures) (c .jump-immediate13 .ensures (c .before .before .before .before .before .before .before .args .regs .now) (c .before .before .before .before .before .before .before .args .stack .now) (c .before .before .before .before .before .before .before .pre .0))
 
 returns-78 : tie.Need-returns-78
 unfolding bits readsDst only lookup withOperand operations arithmetic comparisons jump loads storesOfImm storesOfSrc load storeOfImm storeOfSrc byClass
-returns-78 c = loading _ _ _ _ _ _ _ _ _ _ (c .before .before .before .before .before .before .before .before .pre .1 .0 .mask-low) _ Eight (c .before .before .before .before .match .keys78) refl (c .load-into4 .ensures)
+returns-78 c = jump-register _ _ _ _ _ _ _ _ _ _ (c .before .before .before .before .before .before .before .before .pre .1 .0 .mask-low) _ Short Gt _ (c .before .before .before .before .match .keys78) refl (c .before .gt322 .ensures) (c .jump-register13 .ensures (c .before .before .before .before .before .before .before .before .args .regs .now) (c .before .before .before .before .before .before .before .before .args .stack .now) (c .before .before .before .before .before .before .before .before .pre .0))
 
 returns-79 : tie.Need-returns-79
 unfolding bits readsDst only lookup withOperand operations arithmetic comparisons jump loads storesOfImm storesOfSrc load storeOfImm storeOfSrc byClass
-returns-79 c = storing-immediate _ _ _ _ _ _ _ _ _ _ (c .before .before .before .before .before .before .before .before .before .pre .1 .0 .mask-low) _ One _ (c .before .before .before .before .before .match .keys79) refl (c .before .before .before .before .before .before .extend32 .ensures) (c .before .before .store-immediate .ensures _ _ (c .before .before .before .before .before .before .before .before .before .args .regs .now) (c .before .before .before .before .before .before .before .before .before .pre .0))
+returns-79 c = jump-immediate _ _ _ _ _ _ _ _ _ _ (c .before .before .before .before .before .before .before .pre .1 .0 .mask-low) _ Short Ge _ _ (c .before .before .before .match .keys79) refl (c .before .before .before .before .extend32 .ensures) (c .before .ge32 .ensures) (c .jump-immediate14 .ensures (c .before .before .before .before .before .before .before .args .regs .now) (c .before .before .before .before .before .before .before .args .stack .now) (c .before .before .before .before .before .before .before .pre .0))
 
 returns-80 : tie.Need-returns-80
 unfolding bits readsDst only lookup withOperand operations arithmetic comparisons jump loads storesOfImm storesOfSrc load storeOfImm storeOfSrc byClass
-returns-80 c = storing-immediate _ _ _ _ _ _ _ _ _ _ (c .before .before .before .before .before .before .before .before .before .pre .1 .0 .mask-low) _ Two _ (c .before .before .before .before .before .match .keys80) refl (c .before .before .before .before .before .before .extend32 .ensures) (c .before .before .store-immediate2 .ensures _ _ (c .before .before .before .before .before .before .before .before .before .args .regs .now) (c .before .before .before .before .before .before .before .before .before .pre .0))
+returns-80 c = jump-register _ _ _ _ _ _ _ _ _ _ (c .before .before .before .before .before .before .before .before .pre .1 .0 .mask-low) _ Short Ge _ (c .before .before .before .before .match .keys80) refl (c .before .ge322 .ensures) (c .jump-register14 .ensures (c .before .before .before .before .before .before .before .before .args .regs .now) (c .before .before .before .before .before .before .before .before .args .stack .now) (c .before .before .before .before .before .before .before .before .pre .0))
 
 returns-81 : tie.Need-returns-81
 unfolding bits readsDst only lookup withOperand operations arithmetic comparisons jump loads storesOfImm storesOfSrc load storeOfImm storeOfSrc byClass
-returns-81 c = storing-immediate _ _ _ _ _ _ _ _ _ _ (c .before .before .before .before .before .before .before .before .before .pre .1 .0 .mask-low) _ Four _ (c .before .before .before .before .before .match .keys81) refl (c .before .before .before .before .before .before .extend32 .ensures) (c .before .before .store-immediate3 .ensures _ _ (c .before .before .before .before .before .before .before .before .before .args .regs .now) (c .before .before .before .before .before .before .before .before .before .pre .0))
+returns-81 c = jump-immediate _ _ _ _ _ _ _ _ _ _ (c .before .before .before .before .before .before .before .pre .1 .0 .mask-low) _ Short Set _ _ (c .before .before .before .match .keys81) refl (c .before .before .before .before .extend32 .ensures) (c .before .set32 .ensures) (c .jump-immediate15 .ensures (c .before .before .before .before .before .before .before .args .regs .now) (c .before .before .before .before .before .before .before .args .stack .now) (c .before .before .before .before .before .before .before .pre .0))
 
 returns-82 : tie.Need-returns-82
 unfolding bits readsDst only lookup withOperand operations arithmetic comparisons jump loads storesOfImm storesOfSrc load storeOfImm storeOfSrc byClass
-returns-82 c = storing-immediate _ _ _ _ _ _ _ _ _ _ (c .before .before .before .before .before .before .before .before .before .pre .1 .0 .mask-low) _ Eight _ (c .before .before .before .before .before .match .keys82) refl (c .before .before .before .before .before .before .extend32 .ensures) (c .before .before .store-immediate4 .ensures _ _ (c .before .before .before .before .before .before .before .before .before .args .regs .now) (c .before .before .before .before .before .before .before .before .before .pre .0))
+returns-82 c = jump-register _ _ _ _ _ _ _ _ _ _ (c .before .before .before .before .before .before .before .before .pre .1 .0 .mask-low) _ Short Set _ (c .before .before .before .before .match .keys82) refl (c .before .set322 .ensures) (c .jump-register15 .ensures (c .before .before .before .before .before .before .before .before .args .regs .now) (c .before .before .before .before .before .before .before .before .args .stack .now) (c .before .before .before .before .before .before .before .before .pre .0))
 
 returns-83 : tie.Need-returns-83
 unfolding bits readsDst only lookup withOperand operations arithmetic comparisons jump loads storesOfImm storesOfSrc load storeOfImm storeOfSrc byClass
-returns-83 c = storing-register _ _ _ _ _ _ _ _ _ _ (c .before .before .before .before .before .before .before .before .before .before .pre .1 .0 .mask-low) _ One (c .before .before .before .before .before .before .match .keys83) refl (c .before .before .store-register .ensures _ _ (c .before .before .before .before .before .before .before .before .before .before .args .regs .now) (c .before .before .before .before .before .before .before .before .before .before .pre .0))
+returns-83 c = jump-immediate _ _ _ _ _ _ _ _ _ _ (c .before .before .before .before .before .before .before .pre .1 .0 .mask-low) _ Short Ne _ _ (c .before .before .before .match .keys83) refl (c .before .before .before .before .extend32 .ensures) (c .before .ne32 .ensures) (c .jump-immediate16 .ensures (c .before .before .before .before .before .before .before .args .regs .now) (c .before .before .before .before .before .before .before .args .stack .now) (c .before .before .before .before .before .before .before .pre .0))
 
 returns-84 : tie.Need-returns-84
 unfolding bits readsDst only lookup withOperand operations arithmetic comparisons jump loads storesOfImm storesOfSrc load storeOfImm storeOfSrc byClass
-returns-84 c = storing-register _ _ _ _ _ _ _ _ _ _ (c .before .before .before .before .before .before .before .before .before .before .pre .1 .0 .mask-low) _ Two (c .before .before .before .before .before .before .match .keys84) refl (c .before .before .store-register2 .ensures _ _ (c .before .before .before .before .before .before .before .before .before .before .args .regs .now) (c .before .before .before .before .before .before .before .before .before .before .pre .0))
+returns-84 c = jump-register _ _ _ _ _ _ _ _ _ _ (c .before .before .before .before .before .before .before .before .pre .1 .0 .mask-low) _ Short Ne _ (c .before .before .before .before .match .keys84) refl (c .before .ne322 .ensures) (c .jump-register16 .ensures (c .before .before .before .before .before .before .before .before .args .regs .now) (c .before .before .before .before .before .before .before .before .args .stack .now) (c .before .before .before .before .before .before .before .before .pre .0))
 
 returns-85 : tie.Need-returns-85
 unfolding bits readsDst only lookup withOperand operations arithmetic comparisons jump loads storesOfImm storesOfSrc load storeOfImm storeOfSrc byClass
-returns-85 c = storing-register _ _ _ _ _ _ _ _ _ _ (c .before .before .before .before .before .before .before .before .before .before .pre .1 .0 .mask-low) _ Four (c .before .before .before .before .before .before .match .keys85) refl (c .before .before .store-register3 .ensures _ _ (c .before .before .before .before .before .before .before .before .before .before .args .regs .now) (c .before .before .before .before .before .before .before .before .before .before .pre .0))
+returns-85 c = jump-immediate _ _ _ _ _ _ _ _ _ _ (c .before .before .before .before .before .before .before .pre .1 .0 .mask-low) _ Short Sgt _ _ (c .before .before .before .match .keys85) refl (c .before .before .before .before .extend32 .ensures) (c .before .sgt32 .ensures) (c .jump-immediate17 .ensures (c .before .before .before .before .before .before .before .args .regs .now) (c .before .before .before .before .before .before .before .args .stack .now) (c .before .before .before .before .before .before .before .pre .0))
 
 returns-86 : tie.Need-returns-86
 unfolding bits readsDst only lookup withOperand operations arithmetic comparisons jump loads storesOfImm storesOfSrc load storeOfImm storeOfSrc byClass
-returns-86 c = storing-register _ _ _ _ _ _ _ _ _ _ (c .before .before .before .before .before .before .before .before .before .before .pre .1 .0 .mask-low) _ Eight (c .before .before .before .before .before .before .match .keys86) refl (c .before .before .store-register4 .ensures _ _ (c .before .before .before .before .before .before .before .before .before .before .args .regs .now) (c .before .before .before .before .before .before .before .before .before .before .pre .0))
+returns-86 c = jump-register _ _ _ _ _ _ _ _ _ _ (c .before .before .before .before .before .before .before .before .pre .1 .0 .mask-low) _ Short Sgt _ (c .before .before .before .before .match .keys86) refl (c .before .sgt322 .ensures) (c .jump-register17 .ensures (c .before .before .before .before .before .before .before .before .args .regs .now) (c .before .before .before .before .before .before .before .before .args .stack .now) (c .before .before .before .before .before .before .before .before .pre .0))
 
 returns-87 : tie.Need-returns-87
+unfolding bits readsDst only lookup withOperand operations arithmetic comparisons jump loads storesOfImm storesOfSrc load storeOfImm storeOfSrc byClass
+returns-87 c = jump-immediate _ _ _ _ _ _ _ _ _ _ (c .before .before .before .before .before .before .before .pre .1 .0 .mask-low) _ Short Sge _ _ (c .before .before .before .match .keys87) refl (c .before .before .before .before .extend32 .ensures) (c .before .sge32 .ensures) (c .jump-immediate18 .ensures (c .before .before .before .before .before .before .before .args .regs .now) (c .before .before .before .before .before .before .before .args .stack .now) (c .before .before .before .before .before .before .before .pre .0))
+
+returns-88 : tie.Need-returns-88
+unfolding bits readsDst only lookup withOperand operations arithmetic comparisons jump loads storesOfImm storesOfSrc load storeOfImm storeOfSrc byClass
+returns-88 c = jump-register _ _ _ _ _ _ _ _ _ _ (c .before .before .before .before .before .before .before .before .pre .1 .0 .mask-low) _ Short Sge _ (c .before .before .before .before .match .keys88) refl (c .before .sge322 .ensures) (c .jump-register18 .ensures (c .before .before .before .before .before .before .before .before .args .regs .now) (c .before .before .before .before .before .before .before .before .args .stack .now) (c .before .before .before .before .before .before .before .before .pre .0))
+
+returns-89 : tie.Need-returns-89
+unfolding bits readsDst only lookup withOperand operations arithmetic comparisons jump loads storesOfImm storesOfSrc load storeOfImm storeOfSrc byClass
+returns-89 c = jump-immediate _ _ _ _ _ _ _ _ _ _ (c .before .before .before .before .before .before .before .pre .1 .0 .mask-low) _ Short Lt _ _ (c .before .before .before .match .keys89) refl (c .before .before .before .before .extend32 .ensures) (c .before .lt32 .ensures) (c .jump-immediate19 .ensures (c .before .before .before .before .before .before .before .args .regs .now) (c .before .before .before .before .before .before .before .args .stack .now) (c .before .before .before .before .before .before .before .pre .0))
+
+returns-90 : tie.Need-returns-90
+unfolding bits readsDst only lookup withOperand operations arithmetic comparisons jump loads storesOfImm storesOfSrc load storeOfImm storeOfSrc byClass
+returns-90 c = jump-register _ _ _ _ _ _ _ _ _ _ (c .before .before .before .before .before .before .before .before .pre .1 .0 .mask-low) _ Short Lt _ (c .before .before .before .before .match .keys90) refl (c .before .lt322 .ensures) (c .jump-register19 .ensures (c .before .before .before .before .before .before .before .before .args .regs .now) (c .before .before .before .before .before .before .before .before .args .stack .now) (c .before .before .before .before .before .before .before .before .pre .0))
+
+returns-91 : tie.Need-returns-91
+unfolding bits readsDst only lookup withOperand operations arithmetic comparisons jump loads storesOfImm storesOfSrc load storeOfImm storeOfSrc byClass
+returns-91 c = jump-immediate _ _ _ _ _ _ _ _ _ _ (c .before .before .before .before .before .before .before .pre .1 .0 .mask-low) _ Short Le _ _ (c .before .before .before .match .keys91) refl (c .before .before .before .before .extend32 .ensures) (c .before .le32 .ensures) (c .jump-immediate20 .ensures (c .before .before .before .before .before .before .before .args .regs .now) (c .before .before .before .before .before .before .before .args .stack .now) (c .before .before .before .before .before .before .before .pre .0))
+
+returns-92 : tie.Need-returns-92
+unfolding bits readsDst only lookup withOperand operations arithmetic comparisons jump loads storesOfImm storesOfSrc load storeOfImm storeOfSrc byClass
+returns-92 c = jump-register _ _ _ _ _ _ _ _ _ _ (c .before .before .before .before .before .before .before .before .pre .1 .0 .mask-low) _ Short Le _ (c .before .before .before .before .match .keys92) refl (c .before .le322 .ensures) (c .jump-register20 .ensures (c .before .before .before .before .before .before .before .before .args .regs .now) (c .before .before .before .before .before .before .before .before .args .stack .now) (c .before .before .before .before .before .before .before .before .pre .0))
+
+returns-93 : tie.Need-returns-93
+unfolding bits readsDst only lookup withOperand operations arithmetic comparisons jump loads storesOfImm storesOfSrc load storeOfImm storeOfSrc byClass
+returns-93 c = jump-immediate _ _ _ _ _ _ _ _ _ _ (c .before .before .before .before .before .before .before .pre .1 .0 .mask-low) _ Short Slt _ _ (c .before .before .before .match .keys93) refl (c .before .before .before .before .extend32 .ensures) (c .before .slt32 .ensures) (c .jump-immediate21 .ensures (c .before .before .before .before .before .before .before .args .regs .now) (c .before .before .before .before .before .before .before .args .stack .now) (c .before .before .before .before .before .before .before .pre .0))
+
+returns-94 : tie.Need-returns-94
+unfolding bits readsDst only lookup withOperand operations arithmetic comparisons jump loads storesOfImm storesOfSrc load storeOfImm storeOfSrc byClass
+returns-94 c = jump-register _ _ _ _ _ _ _ _ _ _ (c .before .before .before .before .before .before .before .before .pre .1 .0 .mask-low) _ Short Slt _ (c .before .before .before .before .match .keys94) refl (c .before .slt322 .ensures) (c .jump-register21 .ensures (c .before .before .before .before .before .before .before .before .args .regs .now) (c .before .before .before .before .before .before .before .before .args .stack .now) (c .before .before .before .before .before .before .before .before .pre .0))
+
+returns-95 : tie.Need-returns-95
+unfolding bits readsDst only lookup withOperand operations arithmetic comparisons jump loads storesOfImm storesOfSrc load storeOfImm storeOfSrc byClass
+returns-95 c = jump-immediate _ _ _ _ _ _ _ _ _ _ (c .before .before .before .before .before .before .before .pre .1 .0 .mask-low) _ Short Sle _ _ (c .before .before .before .match .keys95) refl (c .before .before .before .before .extend32 .ensures) (c .before .sle32 .ensures) (c .jump-immediate22 .ensures (c .before .before .before .before .before .before .before .args .regs .now) (c .before .before .before .before .before .before .before .args .stack .now) (c .before .before .before .before .before .before .before .pre .0))
+
+returns-96 : tie.Need-returns-96
+unfolding bits readsDst only lookup withOperand operations arithmetic comparisons jump loads storesOfImm storesOfSrc load storeOfImm storeOfSrc byClass
+returns-96 c = jump-register _ _ _ _ _ _ _ _ _ _ (c .before .before .before .before .before .before .before .before .pre .1 .0 .mask-low) _ Short Sle _ (c .before .before .before .before .match .keys96) refl (c .before .sle322 .ensures) (c .jump-register22 .ensures (c .before .before .before .before .before .before .before .before .args .regs .now) (c .before .before .before .before .before .before .before .before .args .stack .now) (c .before .before .before .before .before .before .before .before .pre .0))
+
+returns-97 : tie.Need-returns-97
+unfolding bits readsDst only lookup withOperand operations arithmetic comparisons jump loads storesOfImm storesOfSrc load storeOfImm storeOfSrc byClass
+returns-97 c = loading _ _ _ _ _ _ _ _ _ _ (c .before .before .before .before .before .before .before .before .pre .1 .0 .mask-low) _ One (c .before .before .before .before .match .keys97) refl (c .load-into .ensures)
+
+returns-98 : tie.Need-returns-98
+unfolding bits readsDst only lookup withOperand operations arithmetic comparisons jump loads storesOfImm storesOfSrc load storeOfImm storeOfSrc byClass
+returns-98 c = loading _ _ _ _ _ _ _ _ _ _ (c .before .before .before .before .before .before .before .before .pre .1 .0 .mask-low) _ Two (c .before .before .before .before .match .keys98) refl (c .load-into2 .ensures)
+
+returns-99 : tie.Need-returns-99
+unfolding bits readsDst only lookup withOperand operations arithmetic comparisons jump loads storesOfImm storesOfSrc load storeOfImm storeOfSrc byClass
+returns-99 c = loading _ _ _ _ _ _ _ _ _ _ (c .before .before .before .before .before .before .before .before .pre .1 .0 .mask-low) _ Four (c .before .before .before .before .match .keys99) refl (c .load-into3 .ensures)
+
+returns-100 : tie.Need-returns-100
+unfolding bits readsDst only lookup withOperand operations arithmetic comparisons jump loads storesOfImm storesOfSrc load storeOfImm storeOfSrc byClass
+returns-100 c = loading _ _ _ _ _ _ _ _ _ _ (c .before .before .before .before .before .before .before .before .pre .1 .0 .mask-low) _ Eight (c .before .before .before .before .match .keys100) refl (c .load-into4 .ensures)
+
+returns-101 : tie.Need-returns-101
+unfolding bits readsDst only lookup withOperand operations arithmetic comparisons jump loads storesOfImm storesOfSrc load storeOfImm storeOfSrc byClass
+returns-101 c = storing-immediate _ _ _ _ _ _ _ _ _ _ (c .before .before .before .before .before .before .before .before .before .pre .1 .0 .mask-low) _ One _ (c .before .before .before .before .before .match .keys101) refl (c .before .before .before .before .before .before .extend32 .ensures) (c .before .before .store-immediate .ensures _ _ (c .before .before .before .before .before .before .before .before .before .args .regs .now) (c .before .before .before .before .before .before .before .before .before .pre .0))
+
+returns-102 : tie.Need-returns-102
+unfolding bits readsDst only lookup withOperand operations arithmetic comparisons jump loads storesOfImm storesOfSrc load storeOfImm storeOfSrc byClass
+returns-102 c = storing-immediate _ _ _ _ _ _ _ _ _ _ (c .before .before .before .before .before .before .before .before .before .pre .1 .0 .mask-low) _ Two _ (c .before .before .before .before .before .match .keys102) refl (c .before .before .before .before .before .before .extend32 .ensures) (c .before .before .store-immediate2 .ensures _ _ (c .before .before .before .before .before .before .before .before .before .args .regs .now) (c .before .before .before .before .before .before .before .before .before .pre .0))
+
+returns-103 : tie.Need-returns-103
+unfolding bits readsDst only lookup withOperand operations arithmetic comparisons jump loads storesOfImm storesOfSrc load storeOfImm storeOfSrc byClass
+returns-103 c = storing-immediate _ _ _ _ _ _ _ _ _ _ (c .before .before .before .before .before .before .before .before .before .pre .1 .0 .mask-low) _ Four _ (c .before .before .before .before .before .match .keys103) refl (c .before .before .before .before .before .before .extend32 .ensures) (c .before .before .store-immediate3 .ensures _ _ (c .before .before .before .before .before .before .before .before .before .args .regs .now) (c .before .before .before .before .before .before .before .before .before .pre .0))
+
+returns-104 : tie.Need-returns-104
+unfolding bits readsDst only lookup withOperand operations arithmetic comparisons jump loads storesOfImm storesOfSrc load storeOfImm storeOfSrc byClass
+returns-104 c = storing-immediate _ _ _ _ _ _ _ _ _ _ (c .before .before .before .before .before .before .before .before .before .pre .1 .0 .mask-low) _ Eight _ (c .before .before .before .before .before .match .keys104) refl (c .before .before .before .before .before .before .extend32 .ensures) (c .before .before .store-immediate4 .ensures _ _ (c .before .before .before .before .before .before .before .before .before .args .regs .now) (c .before .before .before .before .before .before .before .before .before .pre .0))
+
+returns-105 : tie.Need-returns-105
+unfolding bits readsDst only lookup withOperand operations arithmetic comparisons jump loads storesOfImm storesOfSrc load storeOfImm storeOfSrc byClass
+returns-105 c = storing-register _ _ _ _ _ _ _ _ _ _ (c .before .before .before .before .before .before .before .before .before .before .pre .1 .0 .mask-low) _ One (c .before .before .before .before .before .before .match .keys105) refl (c .before .before .store-register .ensures _ _ (c .before .before .before .before .before .before .before .before .before .before .args .regs .now) (c .before .before .before .before .before .before .before .before .before .before .pre .0))
+
+returns-106 : tie.Need-returns-106
+unfolding bits readsDst only lookup withOperand operations arithmetic comparisons jump loads storesOfImm storesOfSrc load storeOfImm storeOfSrc byClass
+returns-106 c = storing-register _ _ _ _ _ _ _ _ _ _ (c .before .before .before .before .before .before .before .before .before .before .pre .1 .0 .mask-low) _ Two (c .before .before .before .before .before .before .match .keys106) refl (c .before .before .store-register2 .ensures _ _ (c .before .before .before .before .before .before .before .before .before .before .args .regs .now) (c .before .before .before .before .before .before .before .before .before .before .pre .0))
+
+returns-107 : tie.Need-returns-107
+unfolding bits readsDst only lookup withOperand operations arithmetic comparisons jump loads storesOfImm storesOfSrc load storeOfImm storeOfSrc byClass
+returns-107 c = storing-register _ _ _ _ _ _ _ _ _ _ (c .before .before .before .before .before .before .before .before .before .before .pre .1 .0 .mask-low) _ Four (c .before .before .before .before .before .before .match .keys107) refl (c .before .before .store-register3 .ensures _ _ (c .before .before .before .before .before .before .before .before .before .before .args .regs .now) (c .before .before .before .before .before .before .before .before .before .before .pre .0))
+
+returns-108 : tie.Need-returns-108
+unfolding bits readsDst only lookup withOperand operations arithmetic comparisons jump loads storesOfImm storesOfSrc load storeOfImm storeOfSrc byClass
+returns-108 c = storing-register _ _ _ _ _ _ _ _ _ _ (c .before .before .before .before .before .before .before .before .before .before .pre .1 .0 .mask-low) _ Eight (c .before .before .before .before .before .before .match .keys108) refl (c .before .before .store-register4 .ensures _ _ (c .before .before .before .before .before .before .before .before .before .before .args .regs .now) (c .before .before .before .before .before .before .before .before .before .before .pre .0))
+
+returns-109 : tie.Need-returns-109
 unfolding undecoded
-returns-87 c = let a = c .before .before .before .before .args in no-arm _ _ _ _ _ (a .op) (a .dst) (a .src) (a .off) (a .imm) (c .before .before .before .before .pre .0) (default-holds undecoded 256 keys refl (a .op) (c .before .before .before .before .fits .op .fits) (c .match .rest))
+returns-109 c = let a = c .before .before .before .before .args in no-arm _ _ _ _ _ (a .op) (a .dst) (a .src) (a .off) (a .imm) (c .before .before .before .before .pre .0) (default-holds undecoded 256 keys refl (a .op) (c .before .before .before .before .fits .op .fits) (c .match .rest))
 
 pub obey-spec : {M : Type 1} → statement M
 obey-spec =
@@ -456,6 +545,28 @@ obey-spec =
     (λ c. search needs) (λ c. search needs) (λ c κs. search needs) (λ c κs. search needs) (λ c. search needs)
     (λ c. search needs) (λ c κs. search needs) (λ c κs. search needs) (λ c. search needs) (λ c. search needs)
     (λ c. search needs) (λ c. search needs) (λ c κs. search needs) (λ c κs. search needs) (λ c. search needs)
+    (λ c. search needs) (λ c κs. search needs) (λ c κs. search needs) (λ c. search needs) (λ c. search needs)
+    (λ c. search needs) (λ c. search needs) (λ c κs. search needs) (λ c κs. search needs) (λ c. search needs)
+    (λ c. search needs) (λ c κs. search needs) (λ c κs. search needs) (λ c. search needs) (λ c. search needs)
+    (λ c. search needs) (λ c. search needs) (λ c κs. search needs) (λ c κs. search needs) (λ c. search needs)
+    (λ c. search needs) (λ c κs. search needs) (λ c κs. search needs) (λ c. search needs) (λ c. search needs)
+    (λ c. search needs) (λ c. search needs) (λ c κs. search needs) (λ c κs. search needs) (λ c. search needs)
+    (λ c. search needs) (λ c κs. search needs) (λ c κs. search needs) (λ c. search needs) (λ c. search needs)
+    (λ c. search needs) (λ c. search needs) (λ c κs. search needs) (λ c κs. search needs) (λ c. search needs)
+    (λ c. search needs) (λ c κs. search needs) (λ c κs. search needs) (λ c. search needs) (λ c. search needs)
+    (λ c. search needs) (λ c. search needs) (λ c κs. search needs) (λ c κs. search needs) (λ c. search needs)
+    (λ c. search needs) (λ c κs. search needs) (λ c κs. search needs) (λ c. search needs) (λ c. search needs)
+    (λ c. search needs) (λ c. search needs) (λ c κs. search needs) (λ c κs. search needs) (λ c. search needs)
+    (λ c. search needs) (λ c κs. search needs) (λ c κs. search needs) (λ c. search needs) (λ c. search needs)
+    (λ c. search needs) (λ c. search needs) (λ c κs. search needs) (λ c κs. search needs) (λ c. search needs)
+    (λ c. search needs) (λ c κs. search needs) (λ c κs. search needs) (λ c. search needs) (λ c. search needs)
+    (λ c. search needs) (λ c. search needs) (λ c κs. search needs) (λ c κs. search needs) (λ c. search needs)
+    (λ c. search needs) (λ c κs. search needs) (λ c κs. search needs) (λ c. search needs) (λ c. search needs)
+    (λ c. search needs) (λ c. search needs) (λ c κs. search needs) (λ c κs. search needs) (λ c. search needs)
+    (λ c. search needs) (λ c κs. search needs) (λ c κs. search needs) (λ c. search needs) (λ c. search needs)
+    (λ c. search needs) (λ c. search needs) (λ c κs. search needs) (λ c κs. search needs) (λ c. search needs)
+    (λ c. search needs) (λ c κs. search needs) (λ c κs. search needs) (λ c. search needs) (λ c. search needs)
+    (λ c. search needs) (λ c. search needs) (λ c κs. search needs) (λ c κs. search needs) (λ c. search needs)
     (λ c. search needs) (λ c κs. search needs) (λ c. search needs) (λ c. search needs) (λ c κs. search needs)
     (λ c. search needs) (λ c. search needs) (λ c κs. search needs) (λ c. search needs) (λ c. search needs)
     (λ c κs. search needs) (λ c. search needs) (λ c. search needs) (λ c κs. search needs) (λ c. search needs)
@@ -471,8 +582,10 @@ obey-spec =
     returns-36 returns-37 returns-38 returns-39 returns-40 returns-41 returns-42 returns-43 returns-44 returns-45
     returns-46 returns-47 returns-48 returns-49 returns-50 returns-51 returns-52 returns-53 returns-54 returns-55
     returns-56 returns-57 returns-58 returns-59 returns-60 returns-61 returns-62 returns-63 returns-64 returns-65
-    returns-66 returns-67 returns-68 returns-69 returns-70 returns-71 returns-72 returns-73 returns-74
-    (λ c. search needs) returns-75 (λ c. search needs) returns-76 (λ c. search needs) returns-77 (λ c. search needs)
-    returns-78 (λ c. search needs) returns-79 (λ c. search needs) returns-80 (λ c. search needs) returns-81
-    (λ c. search needs) returns-82 (λ c. search needs) returns-83 (λ c. search needs) returns-84 (λ c. search needs)
-    returns-85 (λ c. search needs) returns-86 returns-87)
+    returns-66 returns-67 returns-68 returns-69 returns-70 returns-71 returns-72 returns-73 returns-74 returns-75
+    returns-76 returns-77 returns-78 returns-79 returns-80 returns-81 returns-82 returns-83 returns-84 returns-85
+    returns-86 returns-87 returns-88 returns-89 returns-90 returns-91 returns-92 returns-93 returns-94 returns-95
+    returns-96 (λ c. search needs) returns-97 (λ c. search needs) returns-98 (λ c. search needs) returns-99
+    (λ c. search needs) returns-100 (λ c. search needs) returns-101 (λ c. search needs) returns-102
+    (λ c. search needs) returns-103 (λ c. search needs) returns-104 (λ c. search needs) returns-105
+    (λ c. search needs) returns-106 (λ c. search needs) returns-107 (λ c. search needs) returns-108 returns-109)

@@ -1,4 +1,4 @@
--- `width_of`: class 7 is the wide one.
+-- `width_of`: an odd class is the wide one.
 -- Assumes nothing.
 use borrow.Author.Tests.{eq-eqb, ne-eqb}
 use borrow.Author.Needs.{needs}
@@ -13,6 +13,4 @@ returns-2 c = simp (ne-eqb _ _ (c .if1 .left))
 
 pub width-of-spec : {M : Type 1} → statement M
 width-of-spec =
-    tie.close
-    (tie.spec
-    returns returns-2)
+    tie.close (tie.spec returns returns-2)

@@ -15,7 +15,7 @@ returns c = an-index-that-no-path-reaches _ _ _ _ _ _ (c .if1 .taken)
 returns-2 : tie.Need-returns-2
 returns-2 c =
     let start = c .before .before .before .before .before .before .before .before .before .before .before .before .before in
-    a-jump-is-reached _ _ _ _ _ _ _ _ _ _ _ (start .pre .0) (start .pre .2) (c .before .before .before .before .before .before .before .before .before .if1 .left) (c .before .before .before .before .before .before .before .before .decode .ensures ∙ an-instruction-is-decoded _ _ _ (start .pre .2) (start .pre .0)) (c .before .before .before .target .ensures) _ _ _ (c .before .before .before .before .before .before .ins .given .1) (c .before .before .jump .ensures)
+    a-jump-is-reached _ _ _ _ _ _ _ _ _ _ _ (start .pre .0) (start .pre .2) (c .before .before .before .before .before .before .before .before .before .if1 .left) (c .before .before .before .before .before .before .before .before .decode .ensures ∙ an-instruction-is-decoded _ _ _ (start .pre .2) (start .pre .0)) (c .before .before .before .target .ensures) _ _ _ _ (c .before .before .before .before .before .before .ins .given .1) (c .before .before .jump .ensures)
 
 returns-3 : tie.Need-returns-3
 returns-3 c =

@@ -6,7 +6,7 @@ use Rattle.verifier.proofs.send.jump.Statement.{statement}
 use Rattle.verifier.proofs.send.jump.Tie as tie
 
 returns : tie.Need-returns
-returns c = a-decided-jump-is-sent _ _ _ _ _ _ _ _ _ _ _ _ _ (both-are-told _ _ (c .before .before .before .before .before .before .first .given .1) (c .before .before .before .before .before .before .before .before .singles-at .ensures)) (c .before .before .before .compare64 .ensures) (c .before .before .turn .ensures) (search needs) (search needs)
+returns c = a-decided-jump-is-sent _ _ _ _ _ _ _ _ _ _ _ _ _ _ (both-are-told _ _ (c .before .before .before .before .before .before .first .given .1) (c .before .before .before .before .before .before .before .before .singles-at .ensures)) (c .before .before .before .is-taken .ensures) (c .before .before .turn .ensures) (search needs) (search needs)
 
 pub jump-spec : {M : Type 1} → statement M
 jump-spec =

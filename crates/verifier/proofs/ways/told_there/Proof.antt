@@ -1,0 +1,19 @@
+-- `told_there`: each width by its function.
+-- Assumes nothing.
+use borrow.Author.Needs.{needs}
+use Rattle.number.specs.Compare.{refined}
+use Rattle.number.specs.Halves.{refined32}
+use Rattle.analysis.specs.Effects.{told}
+use Rattle.verifier.proofs.ways.told_there.Statement.{statement}
+use Rattle.verifier.proofs.ways.told_there.Tie as tie
+
+returns : tie.Need-returns
+unfolding told refined refined32
+returns c = rw (c .before .enum-told .given .1) (c .taken .ensures)
+
+returns-2 : tie.Need-returns-2
+unfolding told refined refined32
+returns-2 c = rw (c .before .enum-told2 .given .1) (c .taken32 .ensures)
+
+pub told-there-spec : {M : Type 1} → statement M
+told-there-spec = tie.close (tie.spec (λ c. search needs) (λ c κs. search needs) (λ c. search needs) (λ c κs. search needs) returns returns-2)
