@@ -10,10 +10,11 @@ use lib.Pow.{high, pow-pos, pow-add, pow-mono, ones-lt, ones-split, split}
 use lib.Dec.{ltb}
 use borrow.Author.Tests.{ltb-false}
 use Rattle.word.specs.Word.{bit}
-use Rattle.word.proofs.Bit.{bit-zero, bit-mod, bit-high, bit-not, bit-shr, bit-shl, low-eq}
+use Rattle.word.proofs.Bit.{bit-lt, bit-zero, bit-mod, bit-high, bit-not, bit-pow, bit-shr, bit-shl, bit-shl-low, low-eq}
 use Rattle.known_bits.specs.Formula.{upTo, fromBit}
 use Rattle.known_bits.specs.Masks.{Covers}
 use Rattle.known_bits.proofs.Base.{by-cases}
+use Rattle.known_bits.proofs.Tight.{digit}
 
 -- ---- all bits below n
 pub bit-of-ones : (n k : ℕ) → k < n → bit k (2 ^ n - 1) ≡ 1
@@ -40,7 +41,7 @@ module _ (t : ℕ) (h : t < 2 ^ 64) where
       go (suc m) e l = omega arith
 
   -- as many ones as t has digits
-  ones-of : (n : ℕ) × ((2 ^ 64 - 1) / 2 ^ leadingZeros 64 t ≡ 2 ^ n - 1) × (t < 2 ^ n) × (2 ^ n ≤ 2 * t + 1)
+  pub ones-of : (n : ℕ) × ((2 ^ 64 - 1) / 2 ^ leadingZeros 64 t ≡ 2 ^ n - 1) × (t < 2 ^ n) × (2 ^ n ≤ 2 * t + 1)
   ones-of =
       let s = leading-length 64 t h in
       let z = leadingZeros 64 t in
@@ -66,6 +67,14 @@ module _ (t : ℕ) (h : t < 2 ^ 64) where
           let p : 2 ^ (n + 1) ≤ 2 ^ k = pow-mono (omega arith) in
           absurd (omega (arith, pow-add 2 n 1))
       go k b (no i) = let p : 2 ^ k ≤ 2 ^ n = pow-mono (omega arith) in omega (arith, pow-pos k)
+
+  pub bit-up-to : (k : ℕ) → bit k (upTo t) ≡ 1 → 2 ^ k ≤ t
+  unfolding upTo
+  bit-up-to k e = let s = ones-of in go (s .0) (s .1) (s .3) (decLt k (s .0))
+    where
+      go : (n : ℕ) → (2 ^ 64 - 1) / 2 ^ leadingZeros 64 t ≡ 2 ^ n - 1 → 2 ^ n ≤ 2 * t + 1 → Dec (k < n) → 2 ^ k ≤ t
+      go n i l (yes h) = let p : 2 ^ (k + 1) ≤ 2 ^ n = pow-mono (omega arith) in omega (arith, pow-add 2 k 1)
+      go n i l (no h) = absurd (omega (arith, ap (bit k) (sym i) ∙ e, bit-high k (2 ^ n - 1) (lt-of-lt-of-le (ones-lt n) (pow-mono (omega arith)))))
 
 -- ---- the low zeros
 pub low-bits-are-zero : (k n j : ℕ) → j < trailingZeros k n → bit j n ≡ 0
@@ -108,7 +117,7 @@ a-multiple-has-as-many-zeros t k h l = go (decLt (trailingZeros 64 t) k)
 
 -- ---- from bit n on
 module _ (n x : ℕ) (h : x % 2 ^ n ≡ 0) where
-  low-of-multiple : (k : ℕ) → k < n → bit k x ≡ 0
+  pub low-of-multiple : (k : ℕ) → k < n → bit k x ≡ 0
   low-of-multiple k l = sym (bit-mod n k x l) ∙ ap (bit k) h ∙ bit-zero k
 
   no-bit-of-a-multiple-of-more : 64 ≤ n → Covers 0 (x % 2 ^ 64)
@@ -137,6 +146,20 @@ module _ (n x : ℕ) (h : x % 2 ^ n ≡ 0) where
       by-cases (λ (m : ℕ). Covers m (x % 2 ^ 64)) (ltb n 64) (λ e. shifted-ones-cover-multiples)
       (λ e. no-bit-of-a-multiple-of-more (ltb-false n 64 e))
 
+pub zeros-of-fewer : (x m n : ℕ) → m ≤ n → x % 2 ^ n ≡ 0 → x % 2 ^ m ≡ 0
+zeros-of-fewer x m n l h = low-eq m x 0 (λ j i. low-of-multiple n x h j (omega arith) ∙ sym (bit-zero j)) ∙ zero-mod (2 ^ m)
+
+pub bit-below-from : (n k : ℕ) → k < n → k < 64 → bit k (fromBit n) ≡ 0
+unfolding fromBit
+bit-below-from n k l h =
+    by-cases (λ (m : ℕ). bit k m ≡ 0) (ltb n 64) (λ e. bit-mod 64 k ((2 ^ 64 - 1) * 2 ^ n) h ∙ bit-shl-low n k (2 ^ 64 - 1) l) (λ e. bit-zero k)
+
+pub bit-from-on : (n k : ℕ) → n ≤ k → k < 64 → bit k (fromBit n) ≡ 1
+bit-from-on n k l h =
+    digit (bit k (fromBit n)) (bit-lt k (fromBit n))
+    (λ z. absurd (omega (arith, from-bit-covers n (2 ^ k) (zeros-of-fewer (2 ^ k) n k l (mod-self (2 ^ k))) .zeros k z, bit-mod 64 k (2 ^ k) h, bit-pow k)))
+    (λ o. o)
+
 -- ---- products of multiples
 pub zeros-of-a-product : (x y i j : ℕ) → x % 2 ^ i ≡ 0 → y % 2 ^ j ≡ 0 → (x * y) % 2 ^ (i + j) ≡ 0
 zeros-of-a-product x y i j p q =
@@ -147,9 +170,6 @@ zeros-of-a-product x y i j p q =
   where
     grouped : (a b c d : ℕ) → a * b * (c * d) ≡ a * c * (b * d)
     grouped a b c d = omega arith
-
-pub zeros-of-fewer : (x m n : ℕ) → m ≤ n → x % 2 ^ n ≡ 0 → x % 2 ^ m ≡ 0
-zeros-of-fewer x m n l h = low-eq m x 0 (λ j i. low-of-multiple n x h j (omega arith) ∙ sym (bit-zero j)) ∙ zero-mod (2 ^ m)
 
 pub zeros-of-a-shift : (x i n c : ℕ) → n ≤ c → x % 2 ^ i ≡ 0 → (x * 2 ^ c) % 2 ^ (i + n) ≡ 0
 zeros-of-a-shift x i n c l h =

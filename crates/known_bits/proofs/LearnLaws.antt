@@ -14,10 +14,11 @@ use Rattle.word.proofs.Bit.{bit-lt, bit-zero, bit-and, bit-or, bit-xor, ext}
 use Rattle.word.proofs.Cut.{cut-64}
 use Rattle.known_bits.specs.declared.Bits.{Bits}
 use Rattle.known_bits.specs.declared.learn.Learnt.the-variants.{Pair, Nothing}
-use Rattle.known_bits.specs.Formula.{cleared, met}
+use Rattle.known_bits.specs.Formula.{cleared, meet, met}
 use Rattle.known_bits.specs.KnownBits.{Well, Mem, Both, Apart}
 use Rattle.known_bits.specs.Learn.{Learns}
 use Rattle.known_bits.proofs.Base.{by-cases, same-numbers-is-best}
+use Rattle.known_bits.proofs.Meet.{Agree, meet-well, meet-has, meet-within-both}
 use Rattle.known_bits.proofs.Tight.{digit, apart-bit, mem-low, mem-least}
 
 -- ---- JSET
@@ -139,62 +140,22 @@ module _ (a b : Bits) (ga : Well 64 a) (gb : Well 64 b) where
           (λ z. omega (arith, bit-lt k (a .value), bit-lt k (b .value)))
 
   module _ (e : bitOr (a .value) (bitOr (a .mask) (b .mask)) ≡ bitOr (b .value) (bitOr (a .mask) (b .mask))) where
-    abbrev common : Bits
-    common = record { value = bitOr (a .value) (b .value); mask = bitAnd (a .mask) (b .mask) }
-
-    same-value : (k : ℕ) → bit k (a .mask) ≡ 0 → bit k (b .mask) ≡ 0 → bit k (a .value) ≡ bit k (b .value)
-    same-value k p q =
+    same-value : Agree 64 a b
+    same-value k l p q =
         let u : bit k unknown ≡ 0 = omega (arith, unknown-bit k) in
         let f : max (bit k (a .value)) (bit k unknown) ≡ max (bit k (b .value)) (bit k unknown) =
         sym (bit-or k (a .value) unknown) ∙ ap (bit k) e ∙ bit-or k (b .value) unknown in
         omega arith
 
-    value-bit : (k : ℕ) → bit k (common .value) ≡ max (bit k (a .value)) (bit k (b .value))
-    value-bit k = bit-or k (a .value) (b .value)
-
-    mask-bit : (k : ℕ) → bit k (common .mask) ≡ min (bit k (a .mask)) (bit k (b .mask))
-    mask-bit k = bit-and k (a .mask) (b .mask)
-
-    -- where a pair knows the bit, it is the one of the meet
-    first-bit : (k : ℕ) → bit k (a .mask) ≡ 0 → bit k (common .value) ≡ bit k (a .value)
-    first-bit k z =
-        digit (bit k (b .mask)) (bit-lt k (b .mask)) (λ y. omega (arith, value-bit k, same-value k z y))
-        (λ y. omega (arith, value-bit k, apart-bit 64 b gb k))
-
-    second-bit : (k : ℕ) → bit k (b .mask) ≡ 0 → bit k (common .value) ≡ bit k (b .value)
-    second-bit k z =
-        digit (bit k (a .mask)) (bit-lt k (a .mask)) (λ y. omega (arith, value-bit k, same-value k y z))
-        (λ y. omega (arith, value-bit k, apart-bit 64 a ga k))
-
-    common-is-well : Well 64 common
-    common-is-well =
-        let hv = or-lt 64 (a .value) (b .value) (ga .value-fits) (gb .value-fits) in
-        let hm = and-lt 64 (a .mask) (b .mask) (ga .mask-fits) (gb .mask-fits) in
-        record {
-          value-fits = hv;
-          mask-fits = hm;
-          apart = ext 64 (bitAnd (common .value) (common .mask)) 0 (and-lt 64 (common .value) (common .mask) hv hm) (pow-pos 64)
-              (λ k l. omega (arith, bit-zero k, bit-and k (common .value) (common .mask), value-bit k, mask-bit k, apart-bit 64 a ga k, apart-bit 64 b gb k));
-        }
-
-    into : (x : ℕ) → Both a b x → Mem 64 common x
-    into x (ha, hb) =
-        record {
-          fits = ha .fits;
-          agrees = λ k l z. digit (bit k (a .mask)) (bit-lt k (a .mask)) (λ y. ha .agrees k l y ∙ sym (first-bit k y))
-              (λ y. let o : bit k (b .mask) ≡ 0 = omega (arith, mask-bit k, bit-lt k (b .mask)) in hb .agrees k l o ∙ sym (second-bit k o));
-        }
-
-    out : (x : ℕ) → Mem 64 common x → Both a b x
-    out x h = (
-      record { fits = h .fits; agrees = λ k l z. h .agrees k l (omega (arith, mask-bit k)) ∙ first-bit k z },
-      record { fits = h .fits; agrees = λ k l z. h .agrees k l (omega (arith, mask-bit k)) ∙ second-bit k z },
-    )
-
-    meet-keeps-both : Learns (Both a b) (Pair (record { value = bitOr (a .value) (b .value); mask = bitAnd (a .mask) (b .mask) }))
+    meet-keeps-both : Learns (Both a b) (Pair (meet a b))
     meet-keeps-both =
+        let g = meet-well 64 a b ga gb in
+        let out = meet-within-both 64 a b ga gb same-value in
         record {
-          answer = (same-numbers-is-best 64 (Both a b) common common-is-well into out, (common .value, out (common .value) (mem-least 64 common common-is-well)));
+          answer = (
+            same-numbers-is-best 64 (Both a b) (meet a b) g (λ x i. meet-has 64 a b ga gb x (i .0) (i .1)) out,
+            (meet a b .value, out (meet a b .value) (mem-least 64 (meet a b) g)),
+          );
         }
 
   pub met-learns : Learns (Both a b) (met a b)

@@ -9,8 +9,12 @@ pub mod Fits
 pub mod Joined
 pub mod Laws
 pub mod LearnLaws
+pub mod Meet
 pub mod Methods
 pub mod Operations
+pub mod PlainProducts
 pub mod ProductLaws
+pub mod ProductsWithin
 pub mod Refuted
+pub mod ShiftAndAdd
 pub mod Tight

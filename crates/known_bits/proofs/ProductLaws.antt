@@ -1,13 +1,13 @@
 -- Products, quotients and rests of w bits: no result is more than the formula's bound, and the pairs that the formulas give are sound.
 -- By a power of two a quotient and a rest are the best. Assumes nothing.
 use mathlib.Core.Bool.{Bool, true, false, cond, _&&_}
-use mathlib.Core.Path.{_≡_, refl, sym, ap, _∙_, subst}
+use mathlib.Core.Path.{_≡_, refl, sym, ap, ap₂, _∙_, subst}
 use mathlib.Core.Logic.{inl, inr}
 use Prim.Native.Nat.{ℕ, _+_, _-_, _*_, _/_, _%_, _^_, _≤_, _<_}
-use native.Mathlib.Nat.{mod-lt, mod-le, mod-eq-of-lt, mul-le-mul, mul-le-mul-left, le-div-iff-mul-le, div-mul-le-self, div-le-self, le-trans, lt-of-le-of-lt, zero-mod, zero-div, mod-self}
+use native.Mathlib.Nat.{mod-lt, mod-le, mod-eq-of-lt, mul-comm, mul-le-mul, mul-le-mul-left, le-div-iff-mul-le, div-mul-le-self, div-le-self, le-trans, lt-of-le-of-lt, zero-mod, zero-div, mod-self}
 use native.Mathlib.Decide.{decLt}
 use native.Mathlib.Omega.{arith}
-use lib.Bits.{bitOr, and-le-r}
+use lib.Bits.{bitAnd, bitOr, and-le-r, and-mask, and-mod, or-mod, or-zero-l}
 use lib.Count.{trailingZeros}
 use lib.Dec.{eqb, ltb}
 use lib.Pow.{pow-pos, pow-lt, pow-mono, shr-le}
@@ -19,16 +19,18 @@ use Rattle.word.proofs.Bit.{bit-shr, bit-pow}
 use Rattle.word.proofs.Cut.{cut-small, cut-64, cut-wider}
 use Rattle.word.proofs.Pinned.{result-below, mul-is-the-product, div-by-zero, mod-by-zero}
 use Rattle.known_bits.specs.declared.Bits.{Bits}
-use Rattle.known_bits.specs.Formula.{low, upTo, fromBit, among, highestProduct, productMask, known, product, power, highestQuotient, quotient, highestRest, rest, highestShifted, leftMask}
+use Rattle.known_bits.specs.Formula.{low, upTo, fromBit, among, highestProduct, productMask, meet, shiftAndAdd, known, product, power, highestQuotient, quotient, highestRest, rest, highestShifted, leftMask}
 use Rattle.known_bits.specs.KnownBits.{Well, Mem, Sound, Best}
 use Rattle.known_bits.specs.Masks.{Covers}
 use Rattle.known_bits.specs.Pair.{exactly, top, each}
 use Rattle.known_bits.proofs.Exact.{both-known, exact-best}
 use Rattle.known_bits.proofs.Covering.{zeros-of-a-product, zeros-of-a-shift, covered-has-the-low-zeros, from-bit-covers, up-to-covers, up-to-is-no-longer, low-bits-are-zero, a-multiple-has-as-many-zeros}
-use Rattle.known_bits.proofs.Base.{by-cases, top-covers, both-cover, cut-is-covered, covered-is-at-most, covered-is-sound}
-use Rattle.known_bits.proofs.Class4.{low-best, sound-wider}
-use Rattle.known_bits.proofs.Laws.{best-sound, best-same-set, number-wider, high-bit, mem-bounds, exact-mem}
+use Rattle.known_bits.proofs.Base.{by-cases, top-covers, both-cover, covered-is-at-most, covered-is-sound}
+use Rattle.known_bits.proofs.Class4.{low-best, low-well, low-has-the-cuts, sound-wider}
+use Rattle.known_bits.proofs.Laws.{best-sound, best-same-set, number-wider, high-bit, well-wider, mem-wider, mem-bounds, exact-mem}
+use Rattle.known_bits.proofs.Meet.{meet-sound, meet-within}
 use Rattle.known_bits.proofs.Methods.{Image1, Image, From, selected}
+use Rattle.known_bits.proofs.ShiftAndAdd.{shift-and-add-sound}
 use Rattle.known_bits.proofs.Tight.{mem-least, mem-top}
 
 -- ---- bounds of products
@@ -46,7 +48,7 @@ module _ (t u : ℕ) where
       by-cases (λ (m : ℕ). (x * y) % 2 ^ 64 ≤ m) (ltb (t * u) (2 ^ 64)) (λ e. le-trans (mod-le (x * y) (2 ^ 64)) (mul-le-mul p q))
       (λ e. omega arith)
 
-  highest-product-fits : highestProduct t u < 2 ^ 64
+  pub highest-product-fits : highestProduct t u < 2 ^ 64
   unfolding highestProduct
   highest-product-fits = by-cases (λ (m : ℕ). m < 2 ^ 64) (ltb (t * u) (2 ^ 64)) (ltb-true (t * u) (2 ^ 64)) (λ e. omega arith)
 
@@ -274,6 +276,97 @@ module _ (w : ℕ) (small : w ≤ 64) (a : Bits) (ga : Well w a) where
   pub at-most-top : (x : ℕ) → Mem w a x → x ≤ top a
   at-most-top x h = covered-is-at-most (top a) x (top-covers w a ga x h) w (h .fits) (mem-top w a ga .fits)
 
+-- ---- the product, in three views: by the mask, by the digits of a, by the digits of b
+module _ (a b : Bits) (ga : Well 64 a) (gb : Well 64 b) where
+  abbrev Products : ℕ → Type 0
+  Products = Image 64 (alu 64 Mul) a b
+
+  pub by-the-mask : Sound 64 Products (among (productMask (top a) (top b)))
+  by-the-mask =
+      among-is-sound 64 Mul a b _ (omega arith) (product-mask-fits (top a) (top b))
+      (λ x y hx hy. subst (λ (n : ℕ). Covers (productMask (top a) (top b)) n) (sym (mul-is-the-product 64 x y))
+      (product-mask-covers (top a) (top b) (mem-top 64 a ga .fits) (mem-top 64 b gb .fits) x y (hx .fits) (hy .fits) (top-covers 64 a ga x hx) (top-covers 64 b gb y hy)))
+
+  by-digits-of-a : Sound 64 Products (shiftAndAdd 64 a b)
+  by-digits-of-a = shift-and-add-sound 64 a b ga gb
+
+  by-digits-of-b : Sound 64 Products (shiftAndAdd 64 b a)
+  by-digits-of-b =
+      let h = shift-and-add-sound 64 b a gb ga in
+      record { well = h .well; sound = λ z i. h .sound z (i .1, i .0, i .3, i .2, i .4 ∙ turned (i .0) (i .1)) }
+    where
+      turned : (x y : ℕ) → alu 64 Mul x y ≡ alu 64 Mul y x
+      turned x y = mul-is-the-product 64 x y ∙ ap (λ (n : ℕ). n % 2 ^ 64) (mul-comm x y) ∙ sym (mul-is-the-product 64 y x)
+
+  by-digits : Sound 64 Products (meet (shiftAndAdd 64 a b) (shiftAndAdd 64 b a))
+  by-digits = meet-sound 64 Products _ _ by-digits-of-a by-digits-of-b
+
+  both-exact : bitOr (a .mask) (b .mask) ≡ 0 → Best 64 Products (exactly (alu 64 Mul (a .value) (b .value)))
+  both-exact e = let z = both-known (a .mask) (b .mask) e in exact-best 64 Mul a b ga gb (z .0) (z .1)
+
+  pub whole-product-sound : Sound 64 Products (product a b)
+  unfolding product known
+  whole-product-sound =
+      by-cases (Sound 64 Products) (eqb (bitOr (a .mask) (b .mask)) 0) (λ e. best-sound 64 _ _ (both-exact (eqb-true _ _ e)))
+      (λ e. meet-sound 64 Products _ _ by-the-mask by-digits)
+
+  -- each number of the product is one of all three; an exact one is a product
+  pub whole-product-within : (z : ℕ) → Mem 64 (product a b) z
+      → Mem 64 (among (productMask (top a) (top b))) z × (Mem 64 (shiftAndAdd 64 a b) z × Mem 64 (shiftAndAdd 64 b a) z)
+  unfolding product known
+  whole-product-within z =
+      by-cases (λ (r : Bits). Mem 64 r z → Mem 64 (among (productMask (top a) (top b))) z × (Mem 64 (shiftAndAdd 64 a b) z × Mem 64 (shiftAndAdd 64 b a) z))
+      (eqb (bitOr (a .mask) (b .mask)) 0)
+      (λ e m. let i : Products z = (
+        a .value,
+        b .value,
+        mem-least 64 a ga,
+        mem-least 64 b gb,
+        exact-mem 64 _ (both-exact (eqb-true _ _ e) .well) refl z .0 m,
+      ) in
+      (by-the-mask .sound z i, (by-digits-of-a .sound z i, by-digits-of-b .sound z i)))
+      (λ e m. let s = meet-within 64 Products _ _ by-the-mask by-digits _ some z m in
+      (s .0, meet-within 64 Products _ _ by-digits-of-a by-digits-of-b _ some z (s .1)))
+    where
+      some : Products (alu 64 Mul (a .value) (b .value))
+      some = (a .value, b .value, mem-least 64 a ga, mem-least 64 b gb, refl)
+
+-- the code takes the low w bits of all three
+module _ (a b : Bits) (all w : ℕ) (e : all ≡ 2 ^ w - 1) where
+  pub kept : (x : ℕ) → bitAnd x all ≡ x % 2 ^ w
+  kept x = ap (bitAnd x) e ∙ and-mask x w
+
+  pub known-product-cut : bitOr (a .mask) (b .mask) ≡ 0 → (v : ℕ) → v ≡ alu 64 Mul (a .value) (b .value)
+      → record { value = bitAnd v all; mask = 0 } ≡ low w (product a b)
+  unfolding product known low cut
+  known-product-cut z v h =
+      simp (eq-eqb _ _ z) (λ i. record { value = (kept v ∙ ap (cut w) h) i; mask = sym (zero-mod (2 ^ w)) i })
+
+  pub three-views-cut : ¬ (bitOr (a .mask) (b .mask) ≡ 0) → (p q : Bits) (m : ℕ) → low w p ≡ low w (shiftAndAdd 64 a b) → low w q ≡ low w (shiftAndAdd 64 b a)
+      → m ≡ productMask (top a) (top b)
+      → record { value = bitAnd (bitOr (p .value) (q .value)) all; mask = bitAnd (bitAnd m (bitAnd (p .mask) (q .mask))) all } ≡ low w (product a b)
+  unfolding product known low among cut
+  three-views-cut z p q m hp hq hm =
+      simp (ne-eqb _ _ z) (λ i. record { value = values i; mask = masks i })
+    where
+      s : Bits
+      s = shiftAndAdd 64 a b
+
+      t : Bits
+      t = shiftAndAdd 64 b a
+
+      values : bitAnd (bitOr (p .value) (q .value)) all ≡ bitOr 0 (bitOr (s .value) (t .value)) % 2 ^ w
+      values =
+          kept _ ∙ or-mod (p .value) (q .value) w ∙ ap₂ bitOr (ap (λ (r : Bits). r .value) hp) (ap (λ (r : Bits). r .value) hq)
+          ∙ sym (or-mod (s .value) (t .value) w) ∙ ap (λ (n : ℕ). n % 2 ^ w) (sym (or-zero-l (bitOr (s .value) (t .value))))
+
+      masks : bitAnd (bitAnd m (bitAnd (p .mask) (q .mask))) all ≡ bitAnd (productMask (top a) (top b)) (bitAnd (s .mask) (t .mask)) % 2 ^ w
+      masks =
+          kept _ ∙ and-mod m (bitAnd (p .mask) (q .mask)) w
+          ∙ ap₂ bitAnd (ap (λ (n : ℕ). n % 2 ^ w) hm)
+          (and-mod (p .mask) (q .mask) w ∙ ap₂ bitAnd (ap (λ (r : Bits). r .mask) hp) (ap (λ (r : Bits). r .mask) hq) ∙ sym (and-mod (s .mask) (t .mask) w))
+          ∙ sym (and-mod (productMask (top a) (top b)) (bitAnd (s .mask) (t .mask)) w)
+
 module _ (w : ℕ) (small : w ≤ 64) (a b : Bits) (ga : Well w a) (gb : Well w b) where
   exact-sound : (op : Operation) → bitOr (a .mask) (b .mask) ≡ 0 → Sound 64 (Image w (alu w op) a b) (exactly (alu w op (a .value) (b .value)))
   exact-sound op e =
@@ -281,18 +374,15 @@ module _ (w : ℕ) (small : w ≤ 64) (a b : Bits) (ga : Well w a) (gb : Well w 
       sound-wider w 64 small _ _ (best-sound w _ _ (exact-best w op a b ga gb (z .0) (z .1)))
 
   pub product-sound : Sound 64 (Image w (alu w Mul) a b) (low w (product a b))
-  unfolding product known cut
   product-sound =
-      by-cases (λ (r : Bits). Sound 64 (Image w (alu w Mul) a b) (low w r)) (eqb (bitOr (a .mask) (b .mask)) 0)
-      (λ e. subst (λ (r : Bits). Sound 64 (Image w (alu w Mul) a b) r) (sym (exact-product-is w small (a .value) (b .value))) (exact-sound Mul (eqb-true _ _ e)))
-      (λ e. subst (λ (r : Bits). Sound 64 (Image w (alu w Mul) a b) r) (sym (low-among w m))
-      (among-is-sound w Mul a b (m % 2 ^ w) small (lt-of-le-of-lt (mod-le m (2 ^ w)) (product-mask-fits (top a) (top b)))
-      (λ x y hx hy. subst (λ (n : ℕ). Covers (m % 2 ^ w) n) (low-of-the-product w small x y)
-      (cut-is-covered m ((x * y) % 2 ^ 64) (product-mask-covers (top a) (top b) (top-fits w small a ga) (top-fits w small b gb) x y
-      (number-wider w 64 small (hx .fits)) (number-wider w 64 small (hy .fits)) (top-covers w a ga x hx) (top-covers w b gb y hy)) w))))
-    where
-      m : ℕ
-      m = productMask (top a) (top b)
+      let h = whole-product-sound a b (well-wider w 64 small a ga) (well-wider w 64 small b gb) in
+      sound-wider w 64 small _ _ (record {
+        well = low-well w 64 small (product a b) (h .well);
+        sound = λ z i. subst (λ (n : ℕ). Mem w (low w (product a b)) n)
+            (ap (cut w) (mul-is-the-product 64 (i .0) (i .1)) ∙ low-of-the-product w small (i .0) (i .1) ∙ sym (i .4))
+            (low-has-the-cuts w 64 small (product a b) (h .well) _
+            (h .sound _ (i .0, i .1, mem-wider w 64 small a ga (i .0) (i .2), mem-wider w 64 small b gb (i .1) (i .3), refl)));
+      })
 
   -- by a power of two the best pair, and else a bound no more than the greatest dividend
   divided-sound : (op : Operation) (p : Bits) (t : ℕ) → alu 64 op (a .value) (b .value) ≡ alu w op (a .value) (b .value)

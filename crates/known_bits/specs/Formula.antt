@@ -1,11 +1,11 @@
 -- The pair that each operation gives, as a formula. The code computes these and nothing else; what they promise is proved about them.
 -- Assumes nothing.
 use mathlib.Core.Bool.{Bool, cond, _&&_}
-use Prim.Native.Nat.{ℕ, _+_, _-_, _*_, _/_, _%_, _^_}
+use Prim.Native.Nat.{ℕ, zero, suc, _+_, _-_, _*_, _/_, _%_, _^_}
 use lib.Bits.{bitAnd, bitOr, bitXor}
 use lib.Count.{leadingZeros, trailingZeros}
 use lib.Dec.{eqb, ltb}
-use Rattle.word.specs.Word.{cut, alu}
+use Rattle.word.specs.Word.{bit, cut, alu}
 use Rattle.word.specs.declared.Operation.{Operation}
 use Rattle.word.specs.declared.Operation.the-variants.{Add, Sub, Mul, Div, Or, And, Lsh, Rsh, Neg, Mod, Xor, Mov, Arsh}
 use Rattle.known_bits.specs.declared.Bits.{Bits}
@@ -31,6 +31,15 @@ digits w op a b = packed (alu w op (a .value) (b .value)) (bitXor (alu w op (top
 unfoldable pub parity : ℕ → Bits → Bits → Bits
 parity w a b = packed (alu w Xor (a .value) (b .value)) (bitOr (a .mask) (b .mask))
 
+-- ---- two pairs: what holds of the numbers of either, and of those of both
+-- unknown where either is, and where the values differ
+unfoldable pub joined : Bits → Bits → Bits
+joined a b = spread (a .value) (b .value) (a .value) (a .mask) (b .mask)
+
+-- known where either pair knows it
+abbrev pub meet : Bits → Bits → Bits
+meet a b = record { value = bitOr (a .value) (b .value); mask = bitAnd (a .mask) (b .mask) }
+
 -- ---- masks of the bits that a result may have
 -- all bits up to the highest one of t
 unfoldable pub upTo : ℕ → ℕ
@@ -52,12 +61,34 @@ highestProduct t u = cond (ltb (t * u) (2 ^ 64)) (t * u) (2 ^ 64 - 1)
 unfoldable pub productMask : ℕ → ℕ → ℕ
 productMask t u = bitAnd (fromBit (trailingZeros 64 t + trailingZeros 64 u)) (upTo (highestProduct t u))
 
+-- ---- MUL by shift and add, the method of the schools: for each digit of a, from the lowest on, b that many places up is added
+unfoldable pub placed : ℕ → ℕ → Bits → Bits
+placed w k b = each (λ x. (x * 2 ^ k) % 2 ^ w) b
+
+-- r and digit k of a: nothing is added for a 0, b for a 1, and either may be where the digit is unknown
+unfoldable pub withDigit : ℕ → Bits → Bits → ℕ → Bits → Bits
+withDigit w a b k r =
+    cond (eqb (bit k (a .mask)) 0)
+    (cond (eqb (bit k (a .value)) 0) r (sum w r (placed w k b)))
+    (joined r (sum w r (placed w k b)))
+
+-- the low n digits of a times b
+unfoldable pub lowDigits : ℕ → Bits → Bits → ℕ → Bits
+lowDigits w a b zero = exactly 0
+lowDigits w a b (suc k) = withDigit w a b k (lowDigits w a b k)
+
+unfoldable pub shiftAndAdd : ℕ → Bits → Bits → Bits
+shiftAndAdd w a b = lowDigits w a b w
+
 -- ---- MUL, DIV and MOD: exact for exact operands
 unfoldable pub known : Bits → Bits → Bool
 known a b = eqb (bitOr (a .mask) (b .mask)) 0
 
+-- what the digits of either factor and the mask know
 unfoldable pub product : Bits → Bits → Bits
-product a b = cond (known a b) (exactly (alu 64 Mul (a .value) (b .value))) (among (productMask (top a) (top b)))
+product a b =
+    cond (known a b) (exactly (alu 64 Mul (a .value) (b .value)))
+    (meet (among (productMask (top a) (top b))) (meet (shiftAndAdd 64 a b) (shiftAndAdd 64 b a)))
 
 -- the n of a pair that is known to be 2 ^ n; 64 for any other
 unfoldable pub power : Bits → ℕ
@@ -88,10 +119,6 @@ rest a b =
 -- ---- shifts: by a known count, by one of two counts, and by any count from the least to the greatest
 unfoldable pub shiftedBy : ℕ → Operation → Bits → ℕ → Bits
 shiftedBy w op a n = each (λ x. alu w op x n) a
-
--- unknown where either is, and where the values differ
-unfoldable pub joined : Bits → Bits → Bits
-joined a b = spread (a .value) (b .value) (a .value) (a .mask) (b .mask)
 
 -- no less than any number up to t shifted left by at most n, modulo 2 ^ 64
 unfoldable pub highestShifted : ℕ → ℕ → ℕ
@@ -161,5 +188,5 @@ cleared a s = cond (eqb (bitAnd (a .value) s) 0) (Pair (record { value = a .valu
 unfoldable pub met : Bits → Bits → Learnt
 met a b =
     cond (eqb (bitOr (a .value) (bitOr (a .mask) (b .mask))) (bitOr (b .value) (bitOr (a .mask) (b .mask))))
-    (Pair (record { value = bitOr (a .value) (b .value); mask = bitAnd (a .mask) (b .mask) }))
+    (Pair (meet a b))
     Nothing

@@ -13,7 +13,7 @@ use crate::bitwise::xor64;
 use crate::paths::cut32;
 use crate::products::div64;
 use crate::products::mod64;
-use crate::products::mul64;
+use crate::products::mul;
 use crate::shifts::Shift;
 use crate::shifts::shift32;
 use crate::shifts::shift64;
@@ -31,7 +31,7 @@ fn formula64(op: Operation, a: Bits, b: Bits) -> Bits
     match op {
         Operation::Add => add64(a, b),
         Operation::Sub => sub64(a, b),
-        Operation::Mul => mul64(a, b),
+        Operation::Mul => mul(a, b, 0xffff_ffff_ffff_ffff),
         Operation::Div => div64(a, b),
         Operation::Or => or64(a, b),
         Operation::And => and64(a, b),
@@ -52,7 +52,7 @@ fn formula32(op: Operation, a: Bits, b: Bits) -> Bits
     match op {
         Operation::Add => add32(a, b),
         Operation::Sub => sub32(a, b),
-        Operation::Mul => cut32(mul64(a, b)),
+        Operation::Mul => mul(a, b, 0xffff_ffff),
         Operation::Div => div64(a, b),
         Operation::Or => or32(a, b),
         Operation::And => and32(a, b),

@@ -4,9 +4,9 @@ use mathlib.Core.Path.{_≡_, refl}
 use mathlib.Core.Bool.{true, false}
 use Prim.Native.Nat.{ℕ, _+_, _-_, _^_}
 use lib.Count.{leadingZeros, trailingZeros}
-use Rattle.word.specs.Word.{cut, alu, shiftSigned}
+use Rattle.word.specs.Word.{bit, cut, alu, shiftSigned}
 use Rattle.word.specs.declared.Operation.the-variants.{Add, Sub, Mul, Or, And, Rsh, Neg, Mod}
-use Rattle.known_bits.specs.Formula.{calculated, formula, low, sum, difference, digits, upTo, fromBit, among, highestProduct, productMask, known, product, power, quotient, highestRest, rest, shiftedBy, joined, shifted}
+use Rattle.known_bits.specs.Formula.{calculated, formula, low, sum, difference, digits, upTo, fromBit, among, highestProduct, productMask, placed, withDigit, lowDigits, shiftAndAdd, known, product, power, quotient, highestRest, rest, shiftedBy, joined, shifted}
 use Rattle.number.specs.declared.Range.{Range}
 use Rattle.number.specs.Sharpen.{narrowed, stillUnknown, learnt, sharpened, just, exact, everything, loaded, joinedRange, joinedNumber}
 use Rattle.number.specs.Ranges.{straight, crossed, sumRange, differenceRange, productRange, quotientRange, sameQuotient, restRange, longest, leftRange, signedRightRange, ranged}
@@ -42,7 +42,7 @@ record Vectors : Type 0 where
   passes-the-limit : fits (loaded 1) 8 262 ≡ false
 
 vectors : Vectors
-unfolding calculated formula low sum difference digits product known among productMask fromBit highestProduct upTo power quotient highestRest rest shifted shiftedBy joined leadingZeros trailingZeros cut alu shiftSigned narrowed stillUnknown learnt sharpened just exact everything loaded joinedRange joinedNumber straight crossed sumRange differenceRange productRange quotientRange sameQuotient restRange longest leftRange signedRightRange ranged block modulo second computedRange computed fits
+unfolding calculated formula low sum difference digits product placed withDigit lowDigits shiftAndAdd known among productMask fromBit highestProduct upTo power quotient highestRest rest shifted shiftedBy joined leadingZeros trailingZeros bit cut alu shiftSigned narrowed stillUnknown learnt sharpened just exact everything loaded joinedRange joinedNumber straight crossed sumRange differenceRange productRange quotientRange sameQuotient restRange longest leftRange signedRightRange ranged block modulo second computedRange computed fits
 vectors =
     record {
       offset = refl;

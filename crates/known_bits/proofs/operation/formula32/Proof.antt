@@ -1,7 +1,8 @@
 -- `formula32`: each operation by its function.
 -- Assumes nothing.
-use mathlib.Core.Path.{ap, _∙_}
-use Rattle.known_bits.specs.Formula.{low, formula}
+use mathlib.Core.Path.{refl}
+use native.Mathlib.Omega.{arith}
+use Rattle.known_bits.specs.Formula.{formula}
 use Rattle.known_bits.specs.Shift.{operation}
 use borrow.Author.Needs.{needs}
 use Rattle.known_bits.proofs.operation.formula32.Statement.{statement}
@@ -17,7 +18,7 @@ returns-2 c = rw (c .before .enum-told2 .given .1) (c .sub32 .ensures)
 
 returns-3 : tie.Need-returns-3
 unfolding formula
-returns-3 c = rw (c .before .before .enum-told3 .given .1) (c .cut32 .ensures .0 ∙ ap (low 32) (c .before .mul64 .ensures))
+returns-3 c = rw (c .before .enum-told3 .given .1) (c .mul .ensures 32 (omega arith) refl)
 
 returns-4 : tie.Need-returns-4
 unfolding formula
@@ -64,7 +65,7 @@ formula32-spec =
     tie.close
     (tie.spec
     (λ c. search needs) (λ c κs. search needs) (λ c. search needs) (λ c κs. search needs) (λ c. search needs)
-    (λ c κs. search needs) (λ c κs. search needs) (λ c. search needs) (λ c κs. search needs) (λ c. search needs)
+    (λ c κs. search needs) (λ c. search needs) (λ c κs. search needs) (λ c. search needs)
     (λ c κs. search needs) (λ c. search needs) (λ c κs. search needs) (λ c. search needs) (λ c κs. search needs)
     (λ c. search needs) (λ c κs. search needs) (λ c. search needs) (λ c κs. search needs) (λ c. search needs)
     (λ c κs. search needs) (λ c. search needs) (λ c κs. search needs) (λ c. search needs) (λ c. search needs)

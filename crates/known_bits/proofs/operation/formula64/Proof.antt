@@ -1,9 +1,9 @@
 -- `formula64`: each operation by its function.
 -- Assumes nothing.
-use mathlib.Core.Path.{ap, _∙_}
-use Rattle.known_bits.specs.Formula.{low, formula}
+use mathlib.Core.Path.{refl}
+use native.Mathlib.Omega.{arith}
+use Rattle.known_bits.specs.Formula.{formula}
 use Rattle.known_bits.specs.Shift.{operation}
-use Rattle.known_bits.proofs.Class4.{low-same}
 use borrow.Author.Needs.{needs}
 use Rattle.known_bits.proofs.operation.formula64.Statement.{statement}
 use Rattle.known_bits.proofs.operation.formula64.Tie as tie
@@ -18,7 +18,7 @@ returns-2 c = rw (c .before .enum-told2 .given .1) (c .sub64 .ensures)
 
 returns-3 : tie.Need-returns-3
 unfolding formula
-returns-3 c = rw (c .before .enum-told3 .given .1) (low-same 64 _ (search needs) (search needs) ∙ ap (low 64) (c .mul64 .ensures))
+returns-3 c = rw (c .before .enum-told3 .given .1) (c .mul .ensures 64 (omega arith) refl)
 
 returns-4 : tie.Need-returns-4
 unfolding formula
