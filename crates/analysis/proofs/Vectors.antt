@@ -12,7 +12,7 @@ use Rattle.number.specs.Sharpen.{narrowed, stillUnknown, learnt, sharpened, jus
 use Rattle.number.specs.Ranges.{straight, crossed, sumRange, differenceRange, productRange, quotientRange, sameQuotient, restRange, longest, leftRange, signedRightRange, ranged}
 use Rattle.number.specs.Computed.{block, modulo, second, computedRange, computed, fits}
 use Rattle.number.specs.Compare.{settled, bounds, orderedIn, ordered, exchanged, above, common, equalBy, equal, empty, without, apartFrom, unequal, resharpened, disjointBy, disjointOf, disjoint, overlappingOf, overlapping, turned, firsts, turnedBack, signedOrdered, signedAbove, taken, notTaken, refined}
-use Rattle.number.specs.Halves.{unsigned, offset, compared, lowHalf, lowHalves, halves, halvesOfBits, halvesOfRange, withLow, whole, taken32, notTaken32, refined32}
+use Rattle.number.specs.Halves.{unsigned, signed, lowHalf, movedHalf, compared, movedBack, lowHalves, halves, halvesOfBits, halvesOfRange, withLow, whole, taken32, notTaken32, refined32}
 use Rattle.analysis.specs.Values.{valueOf, operandOf, startFacts, sameRegion, joinedGone, joinedValue, joinedValues, joinedFacts, meeting}
 use Rattle.analysis.specs.Effects.{isNever, isMixed, reading, readingBoth, put, role, calculate, limit, storeAt, store, fork, exit, effect}
 use Rattle.analysis.specs.Effects as effects
@@ -24,7 +24,7 @@ use Rattle.analysis.proofs.Programs.{eight, program, K1, K2, K3, K4, K5
 
 -- the answer for a record of R bytes
 answer : List ℕ → ℕ → ℕ × ℕ
-unfolding eight program bit placed withDigit lowDigits shiftAndAdd cut extend shiftSigned alu moved readBytes fields only lookup withOperand operations arithmetic comparisons jump loads storesOfImm storesOfSrc load storeOfImm storeOfSrc byClass meaning decode writes bits bytes isNoInstruction names10 badProgram badRecord low sum difference digits parity upTo fromBit among highestProduct productMask known product power quotient highestRest rest shiftedBy joined highestShifted leftMask signedRight shiftedUnknown single shifted formula calculated cleared met leadingZeros trailingZeros narrowed stillUnknown learnt sharpened just exact everything loaded joinedRange joinedNumber straight crossed sumRange differenceRange productRange quotientRange sameQuotient restRange longest leftRange signedRightRange ranged block modulo second computedRange computed fits settled bounds orderedIn ordered exchanged above common equalBy equal empty without apartFrom unequal resharpened disjointBy disjointOf disjoint overlappingOf overlapping turned firsts turnedBack signedOrdered signedAbove taken notTaken refined unsigned offset compared lowHalf lowHalves halves halvesOfBits halvesOfRange withLow whole taken32 notTaken32 refined32 valueOf operandOf startFacts sameRegion joinedGone joinedValue joinedValues joinedFacts meeting isNever isMixed reading readingBoth put role calculate effects.sum effects.difference effects.arithmetic limit effects.load storeAt store effects.told fork exit effect instruction offOf goesBack goesOut mayBeLast goesOn failing noTarget aimed reaching connected reasonNumber pair having judgements.withOperand along apply nobody arrive send andThen distribute visit conclude pass orElse formed followed onPaths onForm judged
+unfolding eight program bit placed withDigit lowDigits shiftAndAdd cut extend shiftSigned alu moved readBytes fields only lookup withOperand operations arithmetic comparisons jump loads storesOfImm storesOfSrc load storeOfImm storeOfSrc byClass meaning decode writes bits bytes isNoInstruction names10 badProgram badRecord low sum difference digits parity upTo fromBit among highestProduct productMask known product power quotient highestRest rest shiftedBy joined highestShifted leftMask signedRight shiftedUnknown single shifted formula calculated cleared met leadingZeros trailingZeros narrowed stillUnknown learnt sharpened just exact everything loaded joinedRange joinedNumber straight crossed sumRange differenceRange productRange quotientRange sameQuotient restRange longest leftRange signedRightRange ranged block modulo second computedRange computed fits settled bounds orderedIn ordered exchanged above common equalBy equal empty without apartFrom unequal resharpened disjointBy disjointOf disjoint overlappingOf overlapping turned firsts turnedBack signedOrdered signedAbove taken notTaken refined unsigned signed lowHalf movedHalf compared movedBack lowHalves halves halvesOfBits halvesOfRange withLow whole taken32 notTaken32 refined32 valueOf operandOf startFacts sameRegion joinedGone joinedValue joinedValues joinedFacts meeting isNever isMixed reading readingBoth put role calculate effects.sum effects.difference effects.arithmetic limit effects.load storeAt store effects.told fork exit effect instruction offOf goesBack goesOut mayBeLast goesOn failing noTarget aimed reaching connected reasonNumber pair having judgements.withOperand along apply nobody arrive send andThen distribute visit conclude pass orElse formed followed onPaths onForm judged
 answer ns R = pair (judged (program ns) R .finding)
 
 K1-with-72 : answer K1 72 ≡ (0, 0)

@@ -36,30 +36,22 @@ fn unsigned(c: Comparison) -> Comparison
 }
 
 // Signed orders are the orders of the halves moved by half their range.
-fn offset(c: Comparison) -> u64
-    ensures { λ r. ⌜ r ≡ halved.offset c ⌝ }
+fn signed(c: Comparison) -> bool
+    ensures { λ r. ⌜ r ≡ halved.signed c ⌝ }
 {
     match c {
-        Comparison::Eq => 0,
-        Comparison::Gt => 0,
-        Comparison::Ge => 0,
-        Comparison::Set => 0,
-        Comparison::Ne => 0,
-        Comparison::Sgt => 2147483648,
-        Comparison::Sge => 2147483648,
-        Comparison::Lt => 0,
-        Comparison::Le => 0,
-        Comparison::Slt => 2147483648,
-        Comparison::Sle => 2147483648,
+        Comparison::Eq => false,
+        Comparison::Gt => false,
+        Comparison::Ge => false,
+        Comparison::Set => false,
+        Comparison::Ne => false,
+        Comparison::Sgt => true,
+        Comparison::Sge => true,
+        Comparison::Lt => false,
+        Comparison::Le => false,
+        Comparison::Slt => true,
+        Comparison::Sle => true,
     }
-}
-
-// The low half that is compared; done again, it is back.
-fn enter(c: Comparison, n: Number) -> Number
-    ensures { λ r. ⌜ r ≡ halved.compared c n ⌝ }
-{
-    let k = exactly(offset(c));
-    alu32(Operation::Add, n, k)
 }
 
 fn low_half(n: Number) -> Number
@@ -68,27 +60,55 @@ fn low_half(n: Number) -> Number
     alu32(Operation::Mov, n, n)
 }
 
-// What n and the half that was compared know of the low half.
-fn low_by(c: Comparison, n: Number, u: Number) -> Refined
-    ensures { λ r. ⌜ r ≡ defined.equal (halved.lowHalf n) (halved.compared c u) ⌝ }
+// The low half moved by half its range; moved again, it is back.
+fn moved_half(n: Number) -> Number
+    ensures { λ r. ⌜ r ≡ halved.movedHalf n ⌝ }
+{
+    let k = exactly(2147483648);
+    alu32(Operation::Add, n, k)
+}
+
+// The low half that is compared.
+fn enter(c: Comparison, n: Number) -> Number
+    ensures { λ r. ⌜ r ≡ halved.compared c n ⌝ }
+{
+    if signed(c) {
+        return moved_half(n);
+    }
+    low_half(n)
+}
+
+// What n and the moved half that was compared know of the low half.
+fn low_by(n: Number, u: Number) -> Refined
+    ensures { λ r. ⌜ r ≡ defined.equal (halved.lowHalf n) (halved.movedHalf u) ⌝ }
 {
     let l = low_half(n);
-    let k = enter(c, u);
+    let k = moved_half(u);
     compare::taken(Comparison::Eq, l, k)
+}
+
+// What is told of moved halves, as that of the low halves.
+fn moved_back(d: Number, s: Number, way: Refined) -> Refined
+    ensures { λ r. ⌜ r ≡ halved.movedBack d s way ⌝ }
+{
+    match way {
+        Refined::Excluded => Refined::Excluded,
+        Refined::Possible(u, v) => {
+            let x = low_by(d, u);
+            let y = low_by(s, v);
+            first_of_each(x, y)
+        }
+    }
 }
 
 // What is told of the halves that were compared, as that of the low halves.
 fn low_halves(c: Comparison, d: Number, s: Number, way: Refined) -> Refined
     ensures { λ r. ⌜ r ≡ halved.lowHalves c d s way ⌝ }
 {
-    match way {
-        Refined::Excluded => Refined::Excluded,
-        Refined::Possible(u, v) => {
-            let x = low_by(c, d, u);
-            let y = low_by(c, s, v);
-            first_of_each(x, y)
-        }
+    if signed(c) {
+        return moved_back(d, s, way);
     }
+    way
 }
 
 // The upper half of x and the low half of y.

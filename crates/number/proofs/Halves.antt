@@ -1,7 +1,7 @@
 -- The laws of `refined32`: it loses no pair of numbers whose low halves go the way, tells nothing of an upper half, makes neither number
 -- wider, and decides what is known. Assumes nothing.
 use mathlib.Core.Path.{_≡_, refl, sym, ap, ap₂, _∙_, subst}
-use mathlib.Core.Bool.{Bool, true, false, not}
+use mathlib.Core.Bool.{Bool, true, false, not, cond}
 use mathlib.Core.Logic.{inr}
 use Prim.Native.Nat.{ℕ, _+_, _-_, _/_, _^_, _<_}
 use native.Mathlib.Decide.{decLt}
@@ -11,9 +11,10 @@ use borrow.Author.Tests.{eq-eqb, le-ltb, le-leb}
 use Rattle.word.specs.Word.{bit, cut, alu, compare}
 use Rattle.word.specs.declared.Operation.the-variants.{Add, Mov}
 use Rattle.word.specs.declared.Comparison.{Comparison}
-use Rattle.word.specs.declared.Comparison.the-variants.{Eq, Gt, Ge, Set, Ne, Sgt, Sge, Lt, Le, Slt, Sle}
+use Rattle.word.specs.declared.Comparison.the-variants.{Eq}
 use Rattle.word.proofs.Bit.{bit-shr}
 use Rattle.word.proofs.Cut.{cut-small, cut-below}
+use Rattle.word.proofs.Pinned.{result-below}
 use Rattle.known_bits.specs.declared.Bits.{Bits}
 use Rattle.known_bits.specs.KnownBits.{Well, Mem}
 use Rattle.known_bits.specs.Formula.{low, formula, calculated}
@@ -26,42 +27,19 @@ use Rattle.number.specs.declared.Refined.the-variants.{Excluded, Possibl
 use Rattle.number.specs.Meaning.{Within, In, RangeWithin, Narrower, Kept, Left}
 use Rattle.number.specs.Sharpen.{just, exact}
 use Rattle.number.specs.Compare.{settled, common, equal, firsts, taken, refined}
-use Rattle.number.specs.Halves.{unsigned, offset, compared, lowHalf, lowHalves, halves, halvesOfBits, halvesOfRange, withLow, whole, taken32, notTaken32, refined32, UpperKept}
+use Rattle.number.specs.Halves.{unsigned, signed, lowHalf, movedHalf, compared, movedBack, lowHalves, halves, halvesOfBits, halvesOfRange, withLow, whole, taken32, notTaken32, refined32, UpperKept}
 use Rattle.number.proofs.AgainstKnown.{refined-exact, refined-exact-excluded}
-use Rattle.number.proofs.Cases.{by-less}
-use Rattle.number.proofs.Compare.{refined-sound, refined-form}
+use Rattle.number.proofs.Cases.{by-test, by-less}
+use Rattle.number.proofs.Compare.{refined-sound, refined-sharper}
 use Rattle.number.proofs.Computing.{computed-form, computed-sound, computed-bits-within, computed-exact}
 use Rattle.number.proofs.Equality.{equal-sound, equal-leaves}
 use Rattle.number.proofs.HalfBits.{halves-upper, halves-fit, halves-low-bit, halves-high-bit, halves-of-itself, LowAgrees, low-agrees-within, halves-of-bits-form, halves-of-bits-have, halves-of-bits-low, halves-of-bits-within}
-use Rattle.number.proofs.HalfOrders.{key, key-fits, key-back, compare-by-keys}
+use Rattle.number.proofs.HalfOrders.{keyBy, key, key-fits, compare-by-keys, moved-back}
 use Rattle.number.proofs.Known.{exact-in}
 use Rattle.number.proofs.Operands.{same-ends}
 use Rattle.number.proofs.Outcomes.{Some, Sharper, left-map, firsts-keep, firsts-leave, settled-keeps, settled-leaves}
 
--- ---- the half that is compared, and the low half
-offset-fits : (c : Comparison) → offset c < 2 ^ 64
-unfolding offset
-offset-fits Eq = lit< tt
-offset-fits Gt = lit< tt
-offset-fits Ge = lit< tt
-offset-fits Set = lit< tt
-offset-fits Ne = lit< tt
-offset-fits Sgt = lit< tt
-offset-fits Sge = lit< tt
-offset-fits Lt = lit< tt
-offset-fits Le = lit< tt
-offset-fits Slt = lit< tt
-offset-fits Sle = lit< tt
-
-module _ (c : Comparison) (n : Number) where
-  compared-has : (x : ℕ) → In n x → In (compared c n) (key c x)
-  unfolding compared key
-  compared-has x i = computed-sound 32 (inr refl) Add n (exact (offset c)) x (offset c) i (exact-in (offset c) (offset-fits c))
-
-  pub compared-form : Well 64 (n .bits) → Well 64 (compared c n .bits)
-  unfolding compared
-  compared-form g = computed-form 32 (inr refl) Add n (exact (offset c)) g (exact-in (offset c) (offset-fits c) .form)
-
+-- ---- the low half, the half moved, and the one of them that is compared
 module _ (n : Number) where
   low-half-has : (x : ℕ) → In n x → In (lowHalf n) (cut 32 x)
   unfolding lowHalf alu
@@ -70,6 +48,26 @@ module _ (n : Number) where
   low-half-form : Well 64 (n .bits) → Well 64 (lowHalf n .bits)
   unfolding lowHalf
   low-half-form g = computed-form 32 (inr refl) Mov n n g g
+
+  moved-half-has : (x : ℕ) → In n x → In (movedHalf n) (alu 32 Add x (2 ^ 31))
+  unfolding movedHalf
+  moved-half-has x i = computed-sound 32 (inr refl) Add n (exact (2 ^ 31)) x (2 ^ 31) i (exact-in (2 ^ 31) (lit< tt))
+
+  moved-half-form : Well 64 (n .bits) → Well 64 (movedHalf n .bits)
+  unfolding movedHalf
+  moved-half-form g = computed-form 32 (inr refl) Add n (exact (2 ^ 31)) g (exact-in (2 ^ 31) (lit< tt) .form)
+
+compared-has : (c : Comparison) (n : Number) (x : ℕ) → In n x → In (compared c n) (key c x)
+unfolding compared key
+compared-has c n x i = has (signed c)
+  where
+    has : (b : Bool) → In (cond b (movedHalf n) (lowHalf n)) (keyBy b x)
+    has true = moved-half-has n x i
+    has false = low-half-has n x i
+
+pub compared-form : (c : Comparison) (n : Number) → Well 64 (n .bits) → Well 64 (compared c n .bits)
+unfolding compared
+compared-form c n g = by-test (λ (m : Number). Well 64 (m .bits)) (signed c) (λ _. moved-half-form n g) (λ _. low-half-form n g)
 
 -- what agrees with the low half of a pair's numbers agrees with the pair
 low-of-calculated : (p : Bits) (x : ℕ) → LowAgrees (calculated 32 Mov p p) x → LowAgrees p x
@@ -134,24 +132,38 @@ module _ (n l : Number) where
       }
 
 -- ---- nothing is lost
--- the low half is what it is known to be and what was compared, back again
-low-half-keeps : (c : Comparison) (n u : Number) (x : ℕ) → In n x → In u (key c x) → Kept (equal (lowHalf n) (compared c u)) (cut 32 x) (cut 32 x)
-low-half-keeps c n u x i j =
-    equal-sound (lowHalf n) (compared c u) (cut 32 x) (low-half-has n x i) (subst (In (compared c u)) (key-back c x) (compared-has c u (key c x) j))
+-- the low half is what it is known to be and what was moved, back again
+low-half-keeps : (n u : Number) (x : ℕ) → In n x → In u (alu 32 Add x (2 ^ 31)) → Kept (equal (lowHalf n) (movedHalf u)) (cut 32 x) (cut 32 x)
+low-half-keeps n u x i j =
+    equal-sound (lowHalf n) (movedHalf u) (cut 32 x) (low-half-has n x i) (subst (In (movedHalf u)) (moved-back x) (moved-half-has u (alu 32 Add x (2 ^ 31)) j))
+
+moved-back-keeps : (d s : Number) (r : Refined) (x y : ℕ) → In d x → In s y → Kept r (alu 32 Add x (2 ^ 31)) (alu 32 Add y (2 ^ 31))
+    → Kept (movedBack d s r) (cut 32 x) (cut 32 y)
+unfolding movedBack
+moved-back-keeps d s Excluded x y hx hy k = k
+moved-back-keeps d s (Possible u v) x y hx hy k =
+    firsts-keep (equal (lowHalf d) (movedHalf u)) (equal (lowHalf s) (movedHalf v)) (cut 32 x) (cut 32 y)
+    (low-half-keeps d u x hx (k .0)) (low-half-keeps s v y hy (k .1))
 
 low-halves-keep : (c : Comparison) (d s : Number) (r : Refined) (x y : ℕ) → In d x → In s y → Kept r (key c x) (key c y)
     → Kept (lowHalves c d s r) (cut 32 x) (cut 32 y)
-unfolding lowHalves
-low-halves-keep c d s Excluded x y hx hy k = k
-low-halves-keep c d s (Possible u v) x y hx hy k =
-    firsts-keep (equal (lowHalf d) (compared c u)) (equal (lowHalf s) (compared c v)) (cut 32 x) (cut 32 y)
-    (low-half-keeps c d u x hx (k .0)) (low-half-keeps c s v y hy (k .1))
+unfolding lowHalves key
+low-halves-keep c d s r x y hx hy = keep (signed c)
+  where
+    keep : (b : Bool) → Kept r (keyBy b x) (keyBy b y) → Kept (cond b (movedBack d s r) r) (cut 32 x) (cut 32 y)
+    keep true k = moved-back-keeps d s r x y hx hy k
+    keep false k = k
 
 whole-keeps : (d s : Number) (r : Refined) (x y : ℕ) → In d x → In s y → Kept r (cut 32 x) (cut 32 y) → Kept (whole d s r) x y
 unfolding whole
 whole-keeps d s Excluded x y hx hy k = k
 whole-keeps d s (Possible l m) x y hx hy k =
     settled-keeps (withLow d l) (withLow s m) x y (with-low-keeps d l x hx (k .0)) (with-low-keeps s m y hy (k .1))
+
+-- what the comparison of the halves excludes is excluded
+pub excluded-stays : (c : Comparison) (d s : Number) → whole d s (lowHalves c d s Excluded) ≡ Excluded
+unfolding whole lowHalves movedBack
+excluded-stays c d s = by-test (λ (r : Refined). whole d s r ≡ Excluded) (signed c) (λ _. refl) (λ _. refl)
 
 -- both ways are what the comparison of class 5 tells of the halves that are compared
 abbrev pub told : Comparison → Bool → Number → Number → Refined
@@ -210,13 +222,28 @@ low-half-leaves n u g h =
     (equal-leaves (lowHalf n) u (low-half-form n g) h)
 
 module _ (d s : Number) (gd : Well 64 (d .bits)) (gs : Well 64 (s .bits)) where
-  low-halves-leave : (c : Comparison) (r : Refined) → Left r (λ u v. Well 64 (u .bits) × Well 64 (v .bits))
-      → Left (lowHalves c d s r) (λ l m. LowOf d l × LowOf s m)
-  unfolding lowHalves
-  low-halves-leave c Excluded h = tt
-  low-halves-leave c (Possible u v) h =
-      firsts-leave (equal (lowHalf d) (compared c u)) (equal (lowHalf s) (compared c v)) (LowOf d) (LowOf s)
-      (low-half-leaves d (compared c u) gd (compared-form c u (h .0))) (low-half-leaves s (compared c v) gs (compared-form c v (h .1)))
+  moved-back-leaves : (r : Refined) → Left r (Sharper (movedHalf d) (movedHalf s)) → Left (movedBack d s r) (λ l m. LowOf d l × LowOf s m)
+  unfolding movedBack
+  moved-back-leaves Excluded h = tt
+  moved-back-leaves (Possible u v) h =
+      firsts-leave (equal (lowHalf d) (movedHalf u)) (equal (lowHalf s) (movedHalf v)) (LowOf d) (LowOf s)
+      (low-half-leaves d (movedHalf u) gd (moved-half-form u (h .form-first (moved-half-form d gd))))
+      (low-half-leaves s (movedHalf v) gs (moved-half-form v (h .form-second (moved-half-form s gs))))
+
+  low-halves-leave : (c : Comparison) (r : Refined) → Left r (Sharper (compared c d) (compared c s)) → Left (lowHalves c d s r) (λ l m. LowOf d l × LowOf s m)
+  unfolding lowHalves compared
+  low-halves-leave c r = leave (signed c)
+    where
+      leave : (b : Bool) → Left r (Sharper (cond b (movedHalf d) (lowHalf d)) (cond b (movedHalf s) (lowHalf s)))
+          → Left (cond b (movedBack d s r) r) (λ l m. LowOf d l × LowOf s m)
+      leave true h = moved-back-leaves r h
+      leave false h =
+          left-map r (Sharper (lowHalf d) (lowHalf s)) (λ l m. LowOf d l × LowOf s m)
+          (λ l m k. (
+            record { form = k .form-first (low-half-form d gd); narrower = k .first },
+            record { form = k .form-second (low-half-form s gs); narrower = k .second },
+          ))
+          h
 
   whole-sharper : (r : Refined) → Left r (λ l m. LowOf d l × LowOf s m) → Left (whole d s r) (Sharper d s)
   unfolding whole
@@ -238,7 +265,7 @@ module _ (c : Comparison) (way : Bool) (d s : Number) (gd : Well 64 (d .bits)) (
       rw (refined32-is c way d s)
       (whole-sharper d s gd gs (lowHalves c d s (told c way d s))
       (low-halves-leave d s gd gs c (told c way d s)
-      (refined-form (unsigned c) way (compared c d) (compared c s) (compared-form c d gd) (compared-form c s gs))))
+      (refined-sharper (unsigned c) way (compared c d) (compared c s) (compared-form c d gd) (compared-form c s gs))))
 
   pub refined32-narrower : Left (refined32 c way d s) (λ d′ s′. Narrower d′ d × Narrower s′ s)
   refined32-narrower =
@@ -255,22 +282,31 @@ module _ (c : Comparison) (way : Bool) (d s : Number) (gd : Well 64 (d .bits)) (
       (λ d′ s′ h. (h .form-first gd, h .form-second gs)) refined32-sharper
 
 -- ---- what is known is decided
-pub compared-exact : (c : Comparison) (x : ℕ) → x < 2 ^ 64 → compared c (exact x) ≡ exact (key c x)
-unfolding compared key
-compared-exact c x h = computed-exact 32 (inr refl) Add x (offset c) h (offset-fits c)
+moved-half-exact : (x : ℕ) → x < 2 ^ 64 → movedHalf (exact x) ≡ exact (alu 32 Add x (2 ^ 31))
+unfolding movedHalf
+moved-half-exact x h = computed-exact 32 (inr refl) Add x (2 ^ 31) h (lit< tt)
 
 low-half-exact : (x : ℕ) → x < 2 ^ 64 → lowHalf (exact x) ≡ exact (cut 32 x)
 unfolding lowHalf alu
 low-half-exact x h = computed-exact 32 (inr refl) Mov x x h h
 
+pub compared-exact : (c : Comparison) (x : ℕ) → x < 2 ^ 64 → compared c (exact x) ≡ exact (key c x)
+unfolding compared key
+compared-exact c x h = known (signed c)
+  where
+    known : (b : Bool) → cond b (movedHalf (exact x)) (lowHalf (exact x)) ≡ exact (keyBy b x)
+    known true = moved-half-exact x h
+    known false = low-half-exact x h
+
 equal-exact : (x : ℕ) → x < 2 ^ 64 → equal (exact x) (exact x) ≡ Possible (exact x) (exact x)
 unfolding refined taken compare
 equal-exact x h = refined-exact Eq true x x h h (eq-eqb (cut 64 x) (cut 64 x) refl)
 
--- the low half, from what is compared
-back-exact : (c : Comparison) (x : ℕ) → x < 2 ^ 64 → equal (lowHalf (exact x)) (compared c (exact (key c x))) ≡ Possible (exact (cut 32 x)) (exact (cut 32 x))
-back-exact c x h =
-    ap₂ equal (low-half-exact x h) (compared-exact c (key c x) (key-fits c x) ∙ ap exact (key-back c x))
+-- the low half, from what was moved
+back-exact : (x : ℕ) → x < 2 ^ 64 → equal (lowHalf (exact x)) (movedHalf (exact (alu 32 Add x (2 ^ 31)))) ≡ Possible (exact (cut 32 x)) (exact (cut 32 x))
+back-exact x h =
+    ap₂ equal (low-half-exact x h)
+    (moved-half-exact (alu 32 Add x (2 ^ 31)) (number-wider 32 64 (omega arith) (result-below 32 Add x (2 ^ 31))) ∙ ap exact (moved-back x))
     ∙ equal-exact (cut 32 x) (number-wider 32 64 (omega arith) (cut-below 32 x))
 
 range-exact : (x : ℕ) → halvesOfRange (just x) (just (cut 32 x)) ≡ just x
@@ -295,11 +331,21 @@ module _ (c : Comparison) (way : Bool) (x y : ℕ) (hx : x < 2 ^ 64) (hy : y < 2
       ∙ ap (λ r. whole (exact x) (exact y) (lowHalves c (exact x) (exact y) r))
       (ap₂ (refined (unsigned c) way) (compared-exact c x hx) (compared-exact c y hy))
 
+  low-halves-exact : lowHalves c (exact x) (exact y) (Possible (exact (key c x)) (exact (key c y))) ≡ Possible (exact (cut 32 x)) (exact (cut 32 y))
+  unfolding lowHalves movedBack key firsts
+  low-halves-exact = known (signed c)
+    where
+      r : Bool → Refined
+      r b = Possible (exact (keyBy b x)) (exact (keyBy b y))
+
+      known : (b : Bool) → cond b (movedBack (exact x) (exact y) (r b)) (r b) ≡ Possible (exact (cut 32 x)) (exact (cut 32 y))
+      known true = ap₂ firsts (back-exact x hx) (back-exact y hy)
+      known false = refl
+
   whole-exact : whole (exact x) (exact y) (lowHalves c (exact x) (exact y) (Possible (exact (key c x)) (exact (key c y)))) ≡ Possible (exact x) (exact y)
-  unfolding whole lowHalves firsts
+  unfolding whole
   whole-exact =
-      ap (whole (exact x) (exact y)) (ap₂ firsts (back-exact c x hx) (back-exact c y hy))
-      ∙ ap₂ settled (with-low-exact x) (with-low-exact y) ∙ settled-exact x y
+      ap (whole (exact x) (exact y)) low-halves-exact ∙ ap₂ settled (with-low-exact x) (with-low-exact y) ∙ settled-exact x y
 
   pub refined32-exact : compare 32 c x y ≡ way → refined32 c way (exact x) (exact y) ≡ Possible (exact x) (exact y)
   refined32-exact e =
@@ -309,8 +355,8 @@ module _ (c : Comparison) (way : Bool) (x y : ℕ) (hx : x < 2 ^ 64) (hy : y < 2
       ∙ whole-exact
 
   pub refined32-exact-excluded : compare 32 c x y ≡ not way → refined32 c way (exact x) (exact y) ≡ Excluded
-  unfolding whole lowHalves
   refined32-exact-excluded e =
       refined32-of-exact
       ∙ ap (λ r. whole (exact x) (exact y) (lowHalves c (exact x) (exact y) r))
       (refined-exact-excluded (unsigned c) way (key c x) (key c y) (key-fits c x) (key-fits c y) (sym (compare-by-keys c x y) ∙ e))
+      ∙ excluded-stays c (exact x) (exact y)

@@ -16,8 +16,8 @@ use Rattle.number.specs.Sharpen.{exact}
 use Rattle.number.specs.Computed.{computed}
 use Rattle.number.specs.Compare.{settled, common, equal, firsts, taken, notTaken}
 
--- ---- a comparison of low halves is one of class 5: a signed order is the order of the halves moved by 2 ^ 31, the others take them as
--- they are
+-- ---- a comparison of low halves is one of class 5: a signed order is the order of the halves moved by 2 ^ 31, half their range, the
+-- others take them as they are
 unfoldable pub unsigned : Comparison → Comparison
 unsigned Eq = Eq
 unsigned Gt = Gt
@@ -31,30 +31,39 @@ unsigned Le = Le
 unsigned Slt = Lt
 unsigned Sle = Le
 
-unfoldable pub offset : Comparison → ℕ
-offset Eq = 0
-offset Gt = 0
-offset Ge = 0
-offset Set = 0
-offset Ne = 0
-offset Sgt = 2 ^ 31
-offset Sge = 2 ^ 31
-offset Lt = 0
-offset Le = 0
-offset Slt = 2 ^ 31
-offset Sle = 2 ^ 31
+unfoldable pub signed : Comparison → Bool
+signed Eq = false
+signed Gt = false
+signed Ge = false
+signed Set = false
+signed Ne = false
+signed Sgt = true
+signed Sge = true
+signed Lt = false
+signed Le = false
+signed Slt = true
+signed Sle = true
 
--- the low half that is compared. Moved again it is back, at 32 bits
-unfoldable pub compared : Comparison → Number → Number
-compared c n = computed 32 Add n (exact (offset c))
-
--- ---- what is told of the halves that were compared, as that of the low halves
 unfoldable pub lowHalf : Number → Number
 lowHalf n = computed 32 Mov n n
 
+-- the low half moved by 2 ^ 31. Moved again it is back, at 32 bits
+unfoldable pub movedHalf : Number → Number
+movedHalf n = computed 32 Add n (exact (2 ^ 31))
+
+-- what is compared
+unfoldable pub compared : Comparison → Number → Number
+compared c n = cond (signed c) (movedHalf n) (lowHalf n)
+
+-- ---- what is told of the halves that were compared, as that of the low halves
+-- what is left of moved halves is moved back and met with the low half as it was, since moving may forget something
+unfoldable pub movedBack : Number → Number → Refined → Refined
+movedBack d s Excluded = Excluded
+movedBack d s (Possible u v) = firsts (equal (lowHalf d) (movedHalf u)) (equal (lowHalf s) (movedHalf v))
+
+-- without a sign the low halves themselves were compared
 unfoldable pub lowHalves : Comparison → Number → Number → Refined → Refined
-lowHalves c d s Excluded = Excluded
-lowHalves c d s (Possible u v) = firsts (equal (lowHalf d) (compared c u)) (equal (lowHalf s) (compared c v))
+lowHalves c d s r = cond (signed c) (movedBack d s r) r
 
 -- ---- a number with another low half: the upper half of x, the low half of y
 unfoldable pub halves : ℕ → ℕ → ℕ

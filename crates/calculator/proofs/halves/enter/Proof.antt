@@ -1,17 +1,18 @@
--- `enter` adds the offset.
+-- `enter` by whether the order is signed.
 -- Assumes nothing.
-use mathlib.Core.Path.{ap, _∙_}
-use Rattle.number.specs.Sharpen.{exact}
-use Rattle.number.specs.Computed.{computed}
+use mathlib.Core.Path.{sym, _∙_}
 use Rattle.number.specs.Halves.{compared}
-use Rattle.word.specs.declared.Operation.the-variants.{Add}
 use borrow.Author.Needs.{needs}
 use Rattle.calculator.proofs.halves.enter.Statement.{statement}
 use Rattle.calculator.proofs.halves.enter.Tie as tie
 
 returns : tie.Need-returns
 unfolding compared
-returns c = c .alu32 .ensures ∙ ap (computed 32 Add (c .before .before .before .args .n)) (c .before .exactly .ensures ∙ ap exact (c .before .before .offset .ensures))
+returns c = rw (sym (c .before .before .signed .ensures) ∙ c .before .if1 .taken) (c .moved-half .ensures)
+
+returns-2 : tie.Need-returns-2
+unfolding compared
+returns-2 c = rw (sym (c .before .before .signed .ensures) ∙ c .before .if1 .left) (c .low-half .ensures)
 
 pub enter-spec : {M : Type 1} → statement M
-enter-spec = tie.close (tie.spec (λ c κs. search needs) (λ c κs. search needs) (λ c κs. search needs) returns)
+enter-spec = tie.close (tie.spec (λ c κs. search needs) (λ c κs. search needs) returns (λ c κs. search needs) returns-2)

@@ -8,7 +8,7 @@ use Rattle.calculator.proofs.halves.low_by.Tie as tie
 
 returns : tie.Need-returns
 unfolding taken
-returns c = c .taken .ensures ∙ ap₂ equal (c .before .before .low-half .ensures) (c .before .enter .ensures)
+returns c = c .taken .ensures ∙ ap₂ equal (c .before .before .low-half .ensures) (c .before .moved-half .ensures)
 
 pub low-by-spec : {M : Type 1} → statement M
 low-by-spec = tie.close (tie.spec (λ c κs. search needs) (λ c κs. search needs) (λ c κs. search needs) returns)
