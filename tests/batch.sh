@@ -3,18 +3,7 @@
 # The answers to single requests are held by crates/batch/stdout. Ends in 'N passed, M failed'.
 set -u
 cd "$(dirname "$0")/.." || exit 2
-passed=0
-failed=0
-
-# same NAME WANTED FOUND
-same() {
-    if [ "$2" = "$3" ]; then
-        passed=$((passed + 1))
-    else
-        failed=$((failed + 1))
-        printf '%s: wanted [%s], found [%s]\n' "$1" "$2" "$3"
-    fi
-}
+. tests/same.sh
 
 # r0 = 7, exit; and a request of it that spaces make n characters long
 asks='run 0 65536 131072 9 b7000000070000009500000000000000 -'

@@ -3,21 +3,11 @@
 # The archive is for x86-64; elsewhere the toolchain's compiler and emulator are used (x86.sh). Ends in 'N passed, M failed'.
 set -u
 cd "$(dirname "$0")/.." || exit 2
-passed=0
-failed=0
+. tests/same.sh
 made=$(mktemp -d)
 trap 'rm -rf "$made"' EXIT
 . tests/x86.sh
 
-# same NAME WANTED FOUND
-same() {
-    if [ "$2" = "$3" ]; then
-        passed=$((passed + 1))
-    else
-        failed=$((failed + 1))
-        printf '%s: wanted [%s], found [%s]\n' "$1" "$2" "$3"
-    fi
-}
 # good NAME COMMAND..
 good() {
     name=$1
