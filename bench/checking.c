@@ -75,12 +75,7 @@ uint64_t checking_run(const uint8_t *program, size_t program_len, const uint8_t 
         uint64_t next = pc + 1;
         UNUSED(i.dst > 10 || i.src > 10);
         switch (i.opcode) {
-        ARITHMETIC(ALU)
-        NEG(0x87, uint64_t) MOV_IMM(0xb7, uint64_t) MOV_REG(0xbf, uint64_t)
-        NEG(0x84, uint32_t) MOV_IMM(0xb4, uint32_t) MOV_REG(0xbc, uint32_t)
-        COMPARISONS(JUMP)
-        SIZES(LOAD)
-        SIZES(STORE)
+        CASES
         case 0x05: UNUSED(i.dst || i.src || i.imm); next += (uint64_t)i.off; break;
         case 0x95: UNUSED(i.dst || i.src || i.off || i.imm); READS(0); return ended(PW_VERDICT, r[0], steps + 1, 0, answer);
         default: FAULT(PW_FAULT_NO_INSTRUCTION);

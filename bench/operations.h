@@ -40,6 +40,15 @@
 // X(the opcode's bits for the size, type): classes 1, 2 and 3.
 #define SIZES(X) X(0x10, uint8_t) X(0x08, uint16_t) X(0x00, uint32_t) X(0x18, uint64_t)
 
+// All cases but JA and EXIT, by the macros that an interpreter has for its forms: ALU, NEG, MOV_IMM, MOV_REG, JUMP, LOAD and STORE.
+#define CASES \
+    ARITHMETIC(ALU) \
+    NEG(0x87, uint64_t) MOV_IMM(0xb7, uint64_t) MOV_REG(0xbf, uint64_t) \
+    NEG(0x84, uint32_t) MOV_IMM(0xb4, uint32_t) MOV_REG(0xbc, uint32_t) \
+    COMPARISONS(JUMP) \
+    SIZES(LOAD) \
+    SIZES(STORE)
+
 struct instruction {
     unsigned opcode, dst, src;
     int off, imm;

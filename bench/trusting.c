@@ -42,12 +42,7 @@ uint64_t trusting_run(const uint8_t *program, size_t program_len, const uint8_t 
         const struct instruction i = fetch(at);
         GO(1);
         switch (i.opcode) {
-        ARITHMETIC(ALU)
-        NEG(0x87, uint64_t) MOV_IMM(0xb7, uint64_t) MOV_REG(0xbf, uint64_t)
-        NEG(0x84, uint32_t) MOV_IMM(0xb4, uint32_t) MOV_REG(0xbc, uint32_t)
-        COMPARISONS(JUMP)
-        SIZES(LOAD)
-        SIZES(STORE)
+        CASES
         case 0x05: GO(i.off); break;
         case 0x95: return ended(PW_VERDICT, r[0], steps + 1, 0, answer);
         default: return ended(PW_FAULT, PW_FAULT_NO_INSTRUCTION, steps, 0, answer);

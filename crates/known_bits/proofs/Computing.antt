@@ -29,7 +29,8 @@ use Rattle.known_bits.proofs.Exact.{exact-well, best-is-exact}
 use Rattle.known_bits.proofs.Laws.{best-sound}
 use Rattle.known_bits.proofs.Methods.{Image}
 use Rattle.known_bits.proofs.Operations.{add-best, sub-best, neg-best, and-best, or-best, xor-best, mov-best}
-use Rattle.known_bits.proofs.ProductLaws.{exact-product-is, div-at-64, mod-at-64, product-sound, quotient-sound, rest-sound}
+use Rattle.known_bits.proofs.ProductLaws.{exact-product-is, product-sound}
+use Rattle.known_bits.proofs.QuotientLaws.{div-at-64, mod-at-64, quotient-sound, rest-sound}
 
 -- the promise for pairs of w bits
 record Formed (w : ℕ) (op : Operation) (a b r : Bits) : Type 0 where

@@ -24,7 +24,8 @@ use Rattle.known_bits.proofs.Class4.{Width}
 use Rattle.known_bits.proofs.Covering.{bit-of-ones, ones-cover-all-below, up-to-covers, up-to-is-no-longer}
 use Rattle.known_bits.proofs.Laws.{number-wider, mem-bounds}
 use Rattle.known_bits.proofs.Methods.{Image}
-use Rattle.known_bits.proofs.ProductLaws.{left-mask-covers, left-mask-fits, among-is-sound, low-among, top-fits, at-most-top}
+use Rattle.known_bits.proofs.Among.{among-is-sound, low-among, top-fits, at-most-top}
+use Rattle.known_bits.proofs.ProductLaws.{left-mask-covers, left-mask-fits}
 use Rattle.known_bits.proofs.Tight.{packed-value, packed-well}
 
 pub shifted-right-at-most : (x t c n : ℕ) → x ≤ t → n ≤ c → x / 2 ^ c ≤ t / 2 ^ n

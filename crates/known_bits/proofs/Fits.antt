@@ -21,7 +21,7 @@ use Rattle.known_bits.proofs.Base.{by-cases, top-is-below, among-is-bel
 use Rattle.known_bits.proofs.Class4.{width}
 use Rattle.known_bits.proofs.Covering.{up-to-is-no-longer}
 use Rattle.known_bits.proofs.Laws.{number-wider}
-use Rattle.known_bits.proofs.ProductLaws.{quotient-at-most-the-dividend, rest-at-most-the-dividend, highest-quotient-at-most, highest-rest-at-most}
+use Rattle.known_bits.proofs.QuotientLaws.{quotient-at-most-the-dividend, rest-at-most-the-dividend, highest-quotient-at-most, highest-rest-at-most}
 use Rattle.known_bits.proofs.Tight.{spread-fits}
 
 low-below : (w : ℕ) (p : Bits) → Below w (low w p)

@@ -1,3 +1,4 @@
+pub mod Among
 pub mod Base
 pub mod ByCount
 pub mod Class4
@@ -15,6 +16,7 @@ pub mod Operations
 pub mod PlainProducts
 pub mod ProductLaws
 pub mod ProductsWithin
+pub mod QuotientLaws
 pub mod Refuted
 pub mod ShiftAndAdd
 pub mod Tight

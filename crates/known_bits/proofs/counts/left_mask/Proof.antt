@@ -6,7 +6,7 @@ use Prim.Native.Nat.{ℕ, _+_}
 use lib.Bits.{bitAnd}
 use lib.Count.{trailing-le}
 use Rattle.known_bits.specs.Formula.{fromBit, upTo, highestProduct, highestShifted, leftMask}
-use Rattle.known_bits.proofs.ProductLaws.{one-shifted-is-the-power}
+use Rattle.known_bits.proofs.QuotientLaws.{one-shifted-is-the-power}
 use borrow.Author.Needs.{needs}
 use Rattle.known_bits.proofs.counts.left_mask.Statement.{statement}
 use Rattle.known_bits.proofs.counts.left_mask.Tie as tie

@@ -6,7 +6,7 @@ use Prim.Native.Nat.{ℕ, _%_}
 use borrow.Author.Tests.{eq-eqb, ne-eqb, lt-ltb, le-ltb}
 use Rattle.known_bits.specs.Formula.{known, rest, among, upTo}
 use Rattle.known_bits.specs.Pair.{exactly, each}
-use Rattle.known_bits.proofs.ProductLaws.{one-shifted-is-the-power, one-shifted-is-not-zero}
+use Rattle.known_bits.proofs.QuotientLaws.{one-shifted-is-the-power, one-shifted-is-not-zero}
 use borrow.Author.Needs.{needs}
 use Rattle.known_bits.proofs.products.mod64.Statement.{statement}
 use Rattle.known_bits.proofs.products.mod64.Tie as tie

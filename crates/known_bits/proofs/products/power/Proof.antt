@@ -4,7 +4,7 @@ use native.Mathlib.Omega.{arith}
 use mathlib.Core.Path.{sym, ap, _∙_}
 use borrow.Author.Tests.{eq-eqb, ne-eqb}
 use Rattle.known_bits.specs.Formula.{power}
-use Rattle.known_bits.proofs.ProductLaws.{one-shifted-is-the-power}
+use Rattle.known_bits.proofs.QuotientLaws.{one-shifted-is-the-power}
 use Prim.Native.Nat.{ℕ, _%_, _^_}
 use borrow.Author.Needs.{needs}
 use Rattle.known_bits.proofs.products.power.Statement.{statement}
