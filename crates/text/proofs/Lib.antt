@@ -8,3 +8,4 @@ pub mod Decimals
 pub mod Hexadecimals
 pub mod Pairs
 pub mod Vectors
+pub mod Tables

@@ -5,3 +5,4 @@ pub mod Pair
 pub mod Hex
 pub mod Buffer
 pub mod Dump
+pub mod Table

@@ -8,3 +8,4 @@ pub mod number;
 pub mod page;
 pub mod pair;
 pub mod scan;
+pub mod table;
