@@ -11,7 +11,7 @@ use lib.Pow.{pow-mono}
 use borrow.Author.Tests.{leb-true, leb-false, eqb-true, eqb-false, le-leb, lt-leb, lt-ltb, le-ltb}
 use Rattle.word.specs.Word.{alu}
 use Rattle.word.specs.declared.Operation.the-variants.{Div}
-use Rattle.known_bits.proofs.ProductLaws.{product-of-the-greatest-fits, product-that-wraps}
+use Rattle.bit_calculator.proofs.Words.{product-of-the-greatest-fits, product-that-wraps}
 use Rattle.number.proofs.Results.{quotient-is, quotient-by-none}
 
 tests-agree : (t u : Bool) → (t ≡ true → u ≡ true) → (t ≡ false → u ≡ false) → t ≡ u

@@ -9,7 +9,7 @@ use crate::range::ranged;
 use crate::sharpen::between;
 use crate::sharpen::narrow;
 use crate::sharpen::sharpen;
-use known_bits::operation;
+use bit_calculator::operation;
 use number::Number;
 use number::Range;
 use word::Operation;

@@ -8,7 +8,7 @@ ghost use Rattle.number.specs.Ranges as defined;
 ghost use Rattle.number.specs.Sharpen.{just, everything};
 use crate::sharpen::larger;
 use crate::sharpen::smaller;
-use known_bits::masks::up_to;
+use bit_calculator::masks::up_to;
 use number::Range;
 use word::Operation;
 use word::arithmetic32::arsh32;

@@ -4,9 +4,9 @@ ghost use mathlib.Core.Path.{_≡_};
 ghost use Prim.Native.Nat.{ℕ, _*_, _-_, _^_, min, max};
 ghost use Rattle.number.specs.Sharpen.{narrowed, learnt, sharpened, exact, loaded, joinedNumber};
 ghost use Rattle.number.specs.Computed as computed;
+use bit_calculator::masks::up_to;
+use bit_calculator::paths;
 use known_bits::Bits;
-use known_bits::masks::up_to;
-use known_bits::paths;
 use number::Number;
 use number::Range;
 

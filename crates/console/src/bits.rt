@@ -8,11 +8,11 @@ ghost use Rattle.console.specs.Bits.{taskNamed, laterTask, widthNamed, b
 ghost use Rattle.console.specs.declared.bits.Task.the-variants.{Join};
 use crate::request::Word;
 use crate::request::next_word;
+use bit_calculator::operation::alu32;
+use bit_calculator::operation::alu64;
+use bit_calculator::paths::cut32;
+use bit_calculator::paths::join;
 use known_bits::Bits;
-use known_bits::operation::alu32;
-use known_bits::operation::alu64;
-use known_bits::paths::cut32;
-use known_bits::paths::join;
 use text::pair::Pair;
 use text::pair::read_pair;
 use text::scan::same;

@@ -14,8 +14,8 @@ use Rattle.word.specs.declared.Operation.{Operation}
 use Rattle.word.specs.declared.Operation.the-variants.{Add, Sub, Mul, Div, Or, And, Lsh, Rsh, Neg, Mod, Xor, Mov, Arsh}
 use Rattle.word.proofs.Cut.{cut-below, cut-small}
 use Rattle.known_bits.specs.declared.Bits.{Bits}
-use Rattle.known_bits.specs.declared.shifts.Shift.{Shift}
-use Rattle.known_bits.specs.declared.shifts.Shift.the-variants.{Left, Right, Signed}
+use Rattle.known_bits.specs.declared.Shift.{Shift}
+use Rattle.known_bits.specs.declared.Shift.the-variants.{Left, Right, Signed}
 use Rattle.known_bits.specs.Computed.{Demanded, Computed}
 use Rattle.known_bits.specs.Formula.{low, known, product, quotient, rest, single, shiftedUnknown, shifted, formula, calculated}
 use Rattle.known_bits.specs.KnownBits.{Well, Sound, Best, Results}

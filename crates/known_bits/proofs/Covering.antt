@@ -33,13 +33,6 @@ unfolding upTo
 up-to-none = ap (λ (n : ℕ). (2 ^ 64 - 1) / 2 ^ n) (leading-of-zero 64)
 
 module _ (t : ℕ) (h : t < 2 ^ 64) where
-  pub leading-zeros-below-64 : 0 < t → leadingZeros 64 t < 64
-  leading-zeros-below-64 p = let s = leading-length 64 t h in go (s .0) (s .1) (s .2)
-    where
-      go : (m : ℕ) → leadingZeros 64 t + m ≡ 64 → t < 2 ^ m → leadingZeros 64 t < 64
-      go zero e l = absurd (omega arith)
-      go (suc m) e l = omega arith
-
   -- as many ones as t has digits
   pub ones-of : (n : ℕ) × ((2 ^ 64 - 1) / 2 ^ leadingZeros 64 t ≡ 2 ^ n - 1) × (t < 2 ^ n) × (2 ^ n ≤ 2 * t + 1)
   ones-of =

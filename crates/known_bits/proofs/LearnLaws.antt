@@ -13,7 +13,7 @@ use Rattle.word.specs.declared.Comparison.the-variants as comparison
 use Rattle.word.proofs.Bit.{bit-lt, bit-zero, bit-and, bit-or, bit-xor, ext}
 use Rattle.word.proofs.Cut.{cut-64}
 use Rattle.known_bits.specs.declared.Bits.{Bits}
-use Rattle.known_bits.specs.declared.learn.Learnt.the-variants.{Pair, Nothing}
+use Rattle.known_bits.specs.declared.Learnt.the-variants.{Pair, Nothing}
 use Rattle.known_bits.specs.Formula.{cleared, meet, met}
 use Rattle.known_bits.specs.KnownBits.{Well, Mem, Both, Apart}
 use Rattle.known_bits.specs.Learn.{Learns}

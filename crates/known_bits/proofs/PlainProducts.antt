@@ -2,26 +2,25 @@
 -- Assumes nothing.
 use mathlib.Core.Path.{_≡_, sym, ap, ap₂, _∙_, subst}
 use Prim.Native.Nat.{ℕ, _+_, _-_, _*_, _/_, _%_, _^_, _≤_, _<_, min}
-use native.Mathlib.Nat.{mod-eq-of-lt, zero-mod, zero-mul, mul-zero, lt-of-lt-of-le}
+use native.Mathlib.Nat.{mod-eq-of-lt, zero-mul, mul-zero, lt-of-lt-of-le}
 use native.Mathlib.Decide.{decLt}
 use native.Mathlib.Omega.{arith}
 use lib.Bits.{bitAnd, bitOr, and-zero-l, or-zero-l}
 use lib.Count.{trailingZeros}
 use lib.Pow.{high, pow-pos, pow-add, pow-lt, pow-mono}
 use borrow.Author.Tests.{lt-ltb}
-use Rattle.word.specs.Word.{bit, cut, alu}
+use Rattle.word.specs.Word.{bit, alu}
 use Rattle.word.specs.declared.Operation.the-variants.{Mul}
 use Rattle.word.proofs.Bit.{bit-lt, bit-zero, bit-and, bit-mod, bit-pow}
 use Rattle.word.proofs.Pinned.{mul-is-the-product}
 use Rattle.known_bits.specs.declared.Bits.{Bits}
-use Rattle.known_bits.specs.Formula.{low, upTo, fromBit, among, highestProduct, productMask, product}
+use Rattle.known_bits.specs.Formula.{upTo, fromBit, among, highestProduct, productMask, product}
 use Rattle.known_bits.specs.KnownBits.{Well, Mem, Best}
 use Rattle.known_bits.specs.Pair.{top}
-use Rattle.known_bits.proofs.Covering.{bit-of-ones, ones-of, bit-up-to}
-use Rattle.known_bits.proofs.Exact.{both-known}
+use Rattle.known_bits.proofs.Covering.{bit-of-ones, bit-up-to}
 use Rattle.known_bits.proofs.Laws.{high-bit, unique}
 use Rattle.known_bits.proofs.Methods.{Image}
-use Rattle.known_bits.proofs.ProductLaws.{highest-product-fits, by-the-mask, whole-product-sound, whole-product-within, kept}
+use Rattle.known_bits.proofs.ProductLaws.{highest-product-fits, by-the-mask, whole-product-sound, whole-product-within}
 use Rattle.known_bits.proofs.Tight.{tight-best}
 
 -- all numbers of n bits, and no other
@@ -159,15 +158,3 @@ module _ (a b : Bits) (m n : ℕ) (ha : Plain m a) (hb : Plain n b) where
         least = λ q gq hq x hx. mask-is-best .least q gq hq x (whole-product-within a b ga gb x hx .0);
       })
       mask-is-best
-
--- as the code tests it
-pub plain-product-cut : (a b : Bits) (all w : ℕ) → all ≡ 2 ^ w - 1 → a .mask < 2 ^ 64 → b .mask < 2 ^ 64 → bitOr (a .value) (b .value) ≡ 0
-    → upTo (a .mask) ≡ a .mask → upTo (b .mask) ≡ b .mask → (m : ℕ) → m ≡ productMask (top a) (top b)
-    → record { value = 0; mask = bitAnd m all } ≡ low w (product a b)
-unfolding low cut among upTo
-plain-product-cut a b all w e fa fb z pa pb m hm =
-    let v = both-known (a .value) (b .value) z in
-    let s = ones-of (a .mask) fa in
-    let t = ones-of (b .mask) fb in
-    (λ i. record { value = sym (zero-mod (2 ^ w)) i; mask = (kept a b all w e m ∙ ap (λ (n : ℕ). n % 2 ^ w) hm) i })
-    ∙ ap (low w) (sym (plain-product-is-the-mask a b (s .0) (t .0) (record { none = v .0; all = sym pa ∙ s .1; fits = fa }) (record { none = v .1; all = sym pb ∙ t .1; fits = fb })))

@@ -1,14 +1,14 @@
 -- Products of w bits: no result is more than the formula's bound, and the pair that the formula gives is sound, by each of its three views.
 -- Assumes nothing.
-use mathlib.Core.Path.{_≡_, refl, sym, ap, ap₂, _∙_, subst}
-use Prim.Native.Nat.{ℕ, _+_, _-_, _*_, _/_, _%_, _^_, _≤_, _<_}
-use native.Mathlib.Nat.{mod-le, mul-comm, mul-le-mul, le-div-iff-mul-le, le-trans, lt-of-le-of-lt, zero-mod}
+use mathlib.Core.Path.{_≡_, refl, sym, ap, _∙_, subst}
+use Prim.Native.Nat.{ℕ, _+_, _-_, _*_, _%_, _^_, _≤_, _<_}
+use native.Mathlib.Nat.{mod-le, mul-comm, mul-le-mul, le-trans, lt-of-le-of-lt}
 use native.Mathlib.Omega.{arith}
-use lib.Bits.{bitAnd, bitOr, and-le-r, and-mask, and-mod, or-mod, or-zero-l}
+use lib.Bits.{bitOr, and-le-r}
 use lib.Count.{trailingZeros}
 use lib.Dec.{eqb, ltb}
 use lib.Pow.{pow-pos, pow-mono}
-use borrow.Author.Tests.{eq-eqb, ne-eqb, eqb-true, ltb-true}
+use borrow.Author.Tests.{eqb-true, ltb-true}
 use Rattle.word.specs.Word.{alu, cut}
 use Rattle.word.specs.declared.Operation.the-variants.{Mul}
 use Rattle.word.proofs.Cut.{cut-small, cut-wider}
@@ -30,13 +30,6 @@ use Rattle.known_bits.proofs.Tight.{mem-least, mem-top}
 use Rattle.known_bits.proofs.Among.{among-is-sound}
 
 -- ---- bounds of products
-pub product-of-the-greatest-fits : (t u : ℕ) → 0 < u → t ≤ (2 ^ 64 - 1) / u → t * u < 2 ^ 64
-product-of-the-greatest-fits t u h l = omega (arith, le-div-iff-mul-le {k = u} {x = t} {y = 2 ^ 64 - 1} h .0 l)
-
-pub product-that-wraps : (t u : ℕ) → 0 < u → (t ≤ (2 ^ 64 - 1) / u → ⊥) → 2 ^ 64 ≤ t * u
-product-that-wraps t u h w =
-    let g : t * u ≤ 2 ^ 64 - 1 → ⊥ = λ l. w (le-div-iff-mul-le {k = u} {x = t} {y = 2 ^ 64 - 1} h .1 l) in omega arith
-
 module _ (t u : ℕ) where
   product-at-most : (x y : ℕ) → x ≤ t → y ≤ u → (x * y) % 2 ^ 64 ≤ highestProduct t u
   unfolding highestProduct
@@ -149,42 +142,6 @@ module _ (a b : Bits) (ga : Well 64 a) (gb : Well 64 b) where
     where
       some : Products (alu 64 Mul (a .value) (b .value))
       some = (a .value, b .value, mem-least 64 a ga, mem-least 64 b gb, refl)
-
--- the code takes the low w bits of all three
-module _ (a b : Bits) (all w : ℕ) (e : all ≡ 2 ^ w - 1) where
-  pub kept : (x : ℕ) → bitAnd x all ≡ x % 2 ^ w
-  kept x = ap (bitAnd x) e ∙ and-mask x w
-
-  pub known-product-cut : bitOr (a .mask) (b .mask) ≡ 0 → (v : ℕ) → v ≡ alu 64 Mul (a .value) (b .value)
-      → record { value = bitAnd v all; mask = 0 } ≡ low w (product a b)
-  unfolding product known low cut
-  known-product-cut z v h =
-      simp (eq-eqb _ _ z) (λ i. record { value = (kept v ∙ ap (cut w) h) i; mask = sym (zero-mod (2 ^ w)) i })
-
-  pub three-views-cut : ¬ (bitOr (a .mask) (b .mask) ≡ 0) → (p q : Bits) (m : ℕ) → low w p ≡ low w (shiftAndAdd 64 a b) → low w q ≡ low w (shiftAndAdd 64 b a)
-      → m ≡ productMask (top a) (top b)
-      → record { value = bitAnd (bitOr (p .value) (q .value)) all; mask = bitAnd (bitAnd m (bitAnd (p .mask) (q .mask))) all } ≡ low w (product a b)
-  unfolding product known low among cut
-  three-views-cut z p q m hp hq hm =
-      simp (ne-eqb _ _ z) (λ i. record { value = values i; mask = masks i })
-    where
-      s : Bits
-      s = shiftAndAdd 64 a b
-
-      t : Bits
-      t = shiftAndAdd 64 b a
-
-      values : bitAnd (bitOr (p .value) (q .value)) all ≡ bitOr 0 (bitOr (s .value) (t .value)) % 2 ^ w
-      values =
-          kept _ ∙ or-mod (p .value) (q .value) w ∙ ap₂ bitOr (ap (λ (r : Bits). r .value) hp) (ap (λ (r : Bits). r .value) hq)
-          ∙ sym (or-mod (s .value) (t .value) w) ∙ ap (λ (n : ℕ). n % 2 ^ w) (sym (or-zero-l (bitOr (s .value) (t .value))))
-
-      masks : bitAnd (bitAnd m (bitAnd (p .mask) (q .mask))) all ≡ bitAnd (productMask (top a) (top b)) (bitAnd (s .mask) (t .mask)) % 2 ^ w
-      masks =
-          kept _ ∙ and-mod m (bitAnd (p .mask) (q .mask)) w
-          ∙ ap₂ bitAnd (ap (λ (n : ℕ). n % 2 ^ w) hm)
-          (and-mod (p .mask) (q .mask) w ∙ ap₂ bitAnd (ap (λ (r : Bits). r .mask) hp) (ap (λ (r : Bits). r .mask) hq) ∙ sym (and-mod (s .mask) (t .mask) w))
-          ∙ sym (and-mod (productMask (top a) (top b)) (bitAnd (s .mask) (t .mask)) w)
 
 module _ (w : ℕ) (small : w ≤ 64) (a b : Bits) (ga : Well w a) (gb : Well w b) where
   pub product-sound : Sound 64 (Image w (alu w Mul) a b) (low w (product a b))

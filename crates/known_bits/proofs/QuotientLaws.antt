@@ -3,7 +3,7 @@
 use mathlib.Core.Bool.{Bool, true, false, cond, _&&_}
 use mathlib.Core.Path.{_≡_, refl, sym, ap, _∙_, subst}
 use mathlib.Core.Logic.{inl, inr}
-use Prim.Native.Nat.{ℕ, _+_, _*_, _/_, _%_, _^_, _≤_, _<_}
+use Prim.Native.Nat.{ℕ, _+_, _/_, _%_, _^_, _≤_, _<_}
 use native.Mathlib.Nat.{mod-lt, mod-le, mod-eq-of-lt, mul-le-mul-left, le-div-iff-mul-le, div-mul-le-self, div-le-self, le-trans, lt-of-le-of-lt, zero-mod, zero-div, mod-self}
 use native.Mathlib.Decide.{decLt}
 use native.Mathlib.Omega.{arith}
@@ -90,12 +90,6 @@ highest-rest-at-most t v u =
     (λ e. by-cases (λ (m : ℕ). m ≤ t) (ltb t u) (λ i. omega arith) (λ i. omega (arith, ltb-false t u i)))
 
 -- ---- powers of two
-pub one-shifted-is-the-power : (n : ℕ) → n < 64 → (1 * 2 ^ n) % 2 ^ 64 ≡ 2 ^ n
-one-shifted-is-the-power n l = let h : 2 ^ n < 2 ^ 64 = pow-lt l in omega arith
-
-pub one-shifted-is-not-zero : (n : ℕ) → n < 64 → 0 < (1 * 2 ^ n) % 2 ^ 64
-one-shifted-is-not-zero n l = omega (arith, one-shifted-is-the-power n l, pow-pos n)
-
 pub low-zeros-of-a-power : (n : ℕ) → n < 64 → trailingZeros 64 (2 ^ n) ≡ n
 low-zeros-of-a-power n l = go (decLt n (trailingZeros 64 (2 ^ n)))
   where

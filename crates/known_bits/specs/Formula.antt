@@ -9,8 +9,8 @@ use Rattle.word.specs.Word.{bit, cut, alu}
 use Rattle.word.specs.declared.Operation.{Operation}
 use Rattle.word.specs.declared.Operation.the-variants.{Add, Sub, Mul, Div, Or, And, Lsh, Rsh, Neg, Mod, Xor, Mov, Arsh}
 use Rattle.known_bits.specs.declared.Bits.{Bits}
-use Rattle.known_bits.specs.declared.learn.Learnt.{Learnt}
-use Rattle.known_bits.specs.declared.learn.Learnt.the-variants.{Pair, Nothing}
+use Rattle.known_bits.specs.declared.Learnt.{Learnt}
+use Rattle.known_bits.specs.declared.Learnt.the-variants.{Pair, Nothing}
 use Rattle.known_bits.specs.Pair.{top, exactly, packed, spread, each}
 
 -- the low w bits of a pair

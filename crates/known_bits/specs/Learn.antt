@@ -1,8 +1,8 @@
 -- What a way out of a comparison tells of a pair: a sharper pair, or that no number of the pair goes that way.
 -- Assumes nothing.
 use Prim.Native.Nat.{ℕ}
-use Rattle.known_bits.specs.declared.learn.Learnt.{Learnt}
-use Rattle.known_bits.specs.declared.learn.Learnt.the-variants.{Pair, Nothing}
+use Rattle.known_bits.specs.declared.Learnt.{Learnt}
+use Rattle.known_bits.specs.declared.Learnt.the-variants.{Pair, Nothing}
 use Rattle.known_bits.specs.KnownBits.{Best}
 
 -- a pair is the best one for the numbers that are left, and there is one; nothing is left otherwise

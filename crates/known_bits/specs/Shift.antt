@@ -2,8 +2,8 @@
 -- Assumes nothing.
 use Rattle.word.specs.declared.Operation.{Operation}
 use Rattle.word.specs.declared.Operation.the-variants.{Lsh, Rsh, Arsh}
-use Rattle.known_bits.specs.declared.shifts.Shift.{Shift}
-use Rattle.known_bits.specs.declared.shifts.Shift.the-variants.{Left, Right, Signed}
+use Rattle.known_bits.specs.declared.Shift.{Shift}
+use Rattle.known_bits.specs.declared.Shift.the-variants.{Left, Right, Signed}
 
 unfoldable pub operation : Shift → Operation
 operation Left = Lsh

@@ -9,7 +9,7 @@ use crate::sign::put_signed;
 use analysis::Gone;
 use analysis::Region;
 use analysis::Value;
-use known_bits::masks::up_to;
+use bit_calculator::masks::up_to;
 use number::Number;
 use text::buffer::put_decimal;
 use text::buffer::put_hexadecimal;

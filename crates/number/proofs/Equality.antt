@@ -7,8 +7,8 @@ use native.Mathlib.Decide.{ℕ-discrete, decLt}
 use native.Mathlib.Omega.{arith}
 use borrow.Author.Tests.{eq-eqb, ne-eqb, lt-ltb, le-ltb}
 use Rattle.known_bits.specs.declared.Bits.{Bits}
-use Rattle.known_bits.specs.declared.learn.Learnt.{Learnt}
-use Rattle.known_bits.specs.declared.learn.Learnt.the-variants.{Pair, Nothing}
+use Rattle.known_bits.specs.declared.Learnt.{Learnt}
+use Rattle.known_bits.specs.declared.Learnt.the-variants.{Pair, Nothing}
 use Rattle.known_bits.specs.KnownBits.{Well, Both}
 use Rattle.known_bits.specs.Learn.{Learns}
 use Rattle.known_bits.specs.Formula.{met}

@@ -12,8 +12,8 @@ use Rattle.word.specs.Word.{bit}
 use Rattle.word.specs.declared.Comparison.the-variants as comparison
 use Rattle.word.proofs.Bit.{bit-lt, bit-zero, bit-and, bit-not, ext}
 use Rattle.known_bits.specs.declared.Bits.{Bits}
-use Rattle.known_bits.specs.declared.learn.Learnt.{Learnt}
-use Rattle.known_bits.specs.declared.learn.Learnt.the-variants.{Pair, Nothing}
+use Rattle.known_bits.specs.declared.Learnt.{Learnt}
+use Rattle.known_bits.specs.declared.Learnt.the-variants.{Pair, Nothing}
 use Rattle.known_bits.specs.KnownBits.{Well, Mem, Apart}
 use Rattle.known_bits.specs.Learn.{Learns}
 use Rattle.known_bits.specs.Formula.{among}

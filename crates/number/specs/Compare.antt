@@ -8,8 +8,8 @@ use Rattle.word.specs.declared.Comparison.{Comparison}
 use Rattle.word.specs.declared.Comparison.the-variants.{Eq, Gt, Ge, Set, Ne, Sgt, Sge, Lt, Le, Slt, Sle}
 use Rattle.word.specs.declared.Operation.the-variants.{Add}
 use Rattle.known_bits.specs.declared.Bits.{Bits}
-use Rattle.known_bits.specs.declared.learn.Learnt.{Learnt}
-use Rattle.known_bits.specs.declared.learn.Learnt.the-variants.{Pair, Nothing}
+use Rattle.known_bits.specs.declared.Learnt.{Learnt}
+use Rattle.known_bits.specs.declared.Learnt.the-variants.{Pair, Nothing}
 use Rattle.known_bits.specs.Pair.{top}
 use Rattle.known_bits.specs.Formula.{cleared, met}
 use Rattle.number.specs.declared.Range.{Range}

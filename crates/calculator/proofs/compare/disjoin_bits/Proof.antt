@@ -2,7 +2,7 @@
 -- Assumes nothing.
 use mathlib.Core.Path.{ap₂, _∙_}
 use Rattle.number.specs.Compare.{disjointBy, disjointOf}
-use Rattle.known_bits.specs.declared.learn.Learnt.{Learnt}
+use Rattle.known_bits.specs.declared.Learnt.{Learnt}
 use borrow.Author.Needs.{needs}
 use Rattle.calculator.proofs.compare.disjoin_bits.Statement.{statement}
 use Rattle.calculator.proofs.compare.disjoin_bits.Tie as tie

@@ -1,0 +1,3 @@
+pub mod AddedDigits
+pub mod ProductCuts
+pub mod Words
