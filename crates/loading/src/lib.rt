@@ -8,13 +8,20 @@ use object::Section;
 use object::find_code;
 use object::find_named;
 use object::is_elf;
-use orders::Kind;
 use text::dump::Dump;
 use text::dump::read_dump;
 
 mod trouble;
 
 pub use trouble::complain;
+
+// What the file holds, where it is told.
+pub enum Kind {
+    Guess,
+    Raw,
+    Hex,
+    Elf,
+}
 
 // Where the program's bytes are: in the file, or at the start of the buffer for spelled ones. Or what is wrong.
 pub enum Loaded {

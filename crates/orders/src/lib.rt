@@ -3,6 +3,7 @@
 ghost use Prim.Native.Nat.{_≤_};
 ghost use lib.ListN.{length};
 ghost use Rattle.orders.specs.Orders.{Answer, Sane, Stepped};
+use loading::Kind;
 use step::Progress;
 use step::Step;
 use step::take_word;
@@ -53,14 +54,6 @@ pub enum Topic {
     Show,
     Batch,
     Help,
-}
-
-// What the file holds, where an option says so.
-pub enum Kind {
-    Guess,
-    Raw,
-    Hex,
-    Elf,
 }
 
 // What is to be done. An empty section: none was named.

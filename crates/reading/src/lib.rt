@@ -3,10 +3,10 @@
 ghost use Prim.Native.Nat.{_≤_};
 ghost use lib.ListN.{length};
 ghost use Rattle.reading.specs.Told.{Told};
+use loading::Kind;
 use loading::Loaded;
 use loading::load;
 use object::Section;
-use orders::Kind;
 use text::dump::Dump;
 
 // Why nothing was done: there is no room for the answer.

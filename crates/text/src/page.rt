@@ -34,3 +34,13 @@ pub fn write_hexadecimal(out: &mut [u8], at: usize, n: u64) -> usize
 {
     put_hexadecimal(out, at, n)
 }
+
+// A number in decimal, with what comes before and after it.
+pub fn write_number(out: &mut [u8], at: usize, before: &[u8], n: u64, after: &[u8]) -> usize
+    requires { ⌜ at ≤ length (now out) ⌝ }
+    ensures { λ r. ⌜ (at ≤ r) × (r ≤ length (now (out .entry))) ⌝ }
+{
+    let a = write_text(out, at, before);
+    let b = write_decimal(out, a, n);
+    write_text(out, b, after)
+}

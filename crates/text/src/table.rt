@@ -4,11 +4,14 @@ ghost use mathlib.Core.Path.{_≡_};
 ghost use Prim.Native.Nat.{_≤_};
 ghost use lib.ListN.{length, drop};
 ghost use Rattle.text.specs.Buffer.{Put};
-ghost use Rattle.text.specs.Table.{entryOf, behind};
+ghost use Rattle.text.specs.Scan.{equal};
+ghost use Rattle.text.specs.Table.{entryOf, behind, position};
 use crate::buffer::put_text;
 use crate::page::write_decimal;
+use crate::page::write_letter;
 use crate::page::write_text;
 use crate::scan::find;
+use crate::scan::same;
 
 // The index behind the text at `at`.
 fn next_entry(table: &[u8], at: usize) -> usize
@@ -76,4 +79,63 @@ pub fn write_filled(out: &mut [u8], at: usize, table: &[u8], k: u64, n: u64) -> 
     let text = &table[start..end];
     let mark = find(text, 0, b'#');
     write_around(out, at, text, mark, n)
+}
+
+// One character of a text, or the words for which the mark stands.
+fn write_unmarked(out: &mut [u8], at: usize, b: u8, mark: u8, words: &[u8]) -> usize
+    requires { ⌜ at ≤ length (now out) ⌝ }
+    ensures { λ r. ⌜ (at ≤ r) × (r ≤ length (now (out .entry))) ⌝ }
+{
+    if b == mark {
+        return write_text(out, at, words);
+    }
+    write_letter(out, at, b)
+}
+
+// Text k with the words at the place of each mark.
+pub fn write_marked(
+    out: &mut [u8],
+    at: usize,
+    table: &[u8],
+    k: u64,
+    mark: u8,
+    words: &[u8],
+) -> usize
+    requires { ⌜ at ≤ length (now out) ⌝ }
+    ensures { λ r. ⌜ (at ≤ r) × (r ≤ length (now (out .entry))) ⌝ }
+{
+    let start = start_of(table, k);
+    let end = find(table, start, b'\n');
+    let mut o = at;
+    let mut i = start;
+    while i < end {
+        o = write_unmarked(out, o, table[i], mark, words);
+        i += 1;
+    }
+    o
+}
+
+// Whether the text at `at` is the word.
+fn stands_at(table: &[u8], at: usize, word: &[u8]) -> bool
+    requires { ⌜ at ≤ length (now table) ⌝ }
+    ensures { λ r. ⌜ r ≡ equal (now (word .entry)) (entryOf 0 (drop at (now (table .entry)))) ⌝ }
+{
+    let end = find(table, at, b'\n');
+    same(word, &table[at..end])
+}
+
+// Which of the first n texts the word is, or n.
+pub fn position_of(table: &[u8], n: u64, word: &[u8]) -> u64
+    ensures { λ r. ⌜ r ≡ position n (now (table .entry)) (now (word .entry)) ⌝ }
+{
+    let mut at = 0;
+    let mut k: u64 = 0;
+    while k < n {
+        if stands_at(table, at, word) {
+            return k;
+        }
+        at = next_entry(table, at);
+        k += 1;
+    }
+    k
 }
