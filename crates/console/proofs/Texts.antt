@@ -11,7 +11,7 @@ use Rattle.text.proofs.Decimals.{decimal-short}
 use Rattle.text.proofs.Hexadecimals.{hexadecimal-short}
 use Rattle.console.specs.declared.answer.Reply.{Reply}
 use Rattle.console.specs.declared.answer.Reply.the-variants.{Ran, Pair, Found, Bad}
-use Rattle.probewarden.specs.Encoding.{faultNumber}
+use Rattle.reasons.specs.Numbers.{faultNumber}
 use Rattle.console.specs.Answer.{outcomeText, findingText, replyText, answerText}
 
 pair-short : (w : List ℕ) (a b : ℕ) → length w ≤ 8 → length (w ++ decimal a ++ chars " " ++ decimal b) ≤ 49

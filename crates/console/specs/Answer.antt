@@ -14,7 +14,7 @@ use Rattle.analysis.specs.Judged.{pair}
 use Rattle.verifier.specs.declared.Answer.{Answer}
 use Rattle.verifier.specs.declared.Answer.the-variants.{Judgement, ScratchTooSmall}
 use Rattle.verifier.specs.Answered.{answered}
-use Rattle.probewarden.specs.Encoding.{faultNumber}
+use Rattle.reasons.specs.Numbers.{faultNumber}
 use Rattle.text.specs.Scan.{equal}
 use Rattle.text.specs.Number.{number}
 use Rattle.text.specs.Hex.{spelled, bytesOf}

@@ -1,3 +1,2 @@
 pub mod Reads
 pub mod Known
-pub mod Sentence

@@ -8,6 +8,5 @@ mod leak;
 pub mod line;
 mod page;
 mod reads;
-pub mod reason;
 mod refusal;
 mod registers;

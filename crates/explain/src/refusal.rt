@@ -8,12 +8,12 @@ use crate::leak::write_unset_read;
 use crate::page::instruction_at;
 use crate::page::write_help;
 use crate::page::write_note;
-use crate::reason::sentence;
 use analysis::Reason;
 use listing::line::write_count;
 use listing::rule::write_rule;
 use machine::instruction::Instruction;
-use probewarden::number::reason_number;
+use reasons::put_sentence;
+use reasons::reason_number;
 use text::page::write_decimal;
 use text::page::write_text;
 use word::arithmetic64::add64;
@@ -167,6 +167,6 @@ pub fn write_refusal(
     let a = write_note(out, at, b"refused: reason ");
     let b = write_decimal(out, a, reason_number(reason));
     let c = write_text(out, b, b": ");
-    let d = sentence(reason, out, c);
+    let d = put_sentence(out, c, reason);
     write_detail(out, d, program, record_len, scratch, reason, i)
 }

@@ -18,7 +18,8 @@ use Rattle.analysis.specs.declared.Judged.{Judged}
 use Rattle.analysis.specs.Judged.{reasonNumber}
 use Rattle.verifier.specs.declared.Answer.{Answer}
 use Rattle.verifier.specs.declared.Answer.the-variants.{Judgement, ScratchTooSmall}
-use Rattle.probewarden.specs.Encoding.{faultNumber, Said, findingSaid, answerSaid, outcomeSaid}
+use Rattle.reasons.specs.Numbers.{faultNumber}
+use Rattle.probewarden.specs.Encoding.{Said, findingSaid, answerSaid, outcomeSaid}
 
 -- ---- numbers tell reasons and faults
 
@@ -52,7 +53,7 @@ faultNumbered : ℕ → Cause
 faultNumbered n = cond (eqb n 1) BadCode (cond (eqb n 2) OffEnd (cond (eqb n 3) Unset (cond (eqb n 4) WriteR10 BadAccess)))
 
 a-fault-by-its-number : (cause : Cause) → faultNumbered (faultNumber cause) ≡ cause
-unfolding faultNumbered faultNumber
+unfolding faultNumbered
 a-fault-by-its-number BadCode = refl
 a-fault-by-its-number OffEnd = refl
 a-fault-by-its-number Unset = refl

@@ -18,7 +18,7 @@ use Rattle.analysis.specs.Judged.{reasonNumber}
 use Rattle.verifier.specs.declared.Answer.{Answer}
 use Rattle.verifier.specs.declared.Answer.the-variants.{Judgement, ScratchTooSmall}
 use Rattle.verifier.specs.Answered.{IsYes, Promises, answered}
-use Rattle.probewarden.specs.Encoding.{faultNumber, Said, findingSaid, answerSaid, outcomeSaid, headed}
+use Rattle.probewarden.specs.Encoding.{Said, findingSaid, answerSaid, outcomeSaid, headed}
 use Rattle.probewarden.specs.Exported.{Verified, Interpreted}
 
 -- ---- three words in place of the first three

@@ -3,23 +3,14 @@
 use mathlib.Core.List.{List, [], _∷_, _++_}
 use Prim.Native.Nat.{ℕ}
 use lib.ListN.{length, drop}
-use Rattle.machine.specs.declared.outcome.Cause.{Cause}
-use Rattle.machine.specs.declared.outcome.Cause.the-variants.{BadCode, OffEnd, Unset, WriteR10, BadAccess}
 use Rattle.machine.specs.declared.outcome.Outcome.{Outcome}
 use Rattle.machine.specs.declared.outcome.Outcome.the-variants.{Verdict, Fault, Budget, Refused}
 use Rattle.analysis.specs.declared.Finding.{Finding}
 use Rattle.analysis.specs.declared.Finding.the-variants as finding
 use Rattle.analysis.specs.Judged.{reasonNumber}
+use Rattle.reasons.specs.Numbers.{faultNumber}
 use Rattle.verifier.specs.declared.Answer.{Answer}
 use Rattle.verifier.specs.declared.Answer.the-variants.{Judgement, ScratchTooSmall}
-
--- a fault's number in docs/MACHINE.md, section 5
-unfoldable pub faultNumber : Cause → ℕ
-faultNumber BadCode = 1
-faultNumber OffEnd = 2
-faultNumber Unset = 3
-faultNumber WriteR10 = 4
-faultNumber BadAccess = 5
 
 pub record Said : Type 0 where
   pub code : ℕ
@@ -44,3 +35,7 @@ outcomeSaid Refused = record { code = 3; words = [] }
 -- the caller's words with others in place of the first
 unfoldable pub headed : List ℕ → List ℕ → List ℕ
 headed words before = words ++ drop (length words) before
+
+-- a text as C has it
+unfoldable pub ended : List ℕ → List ℕ
+ended t = t ++ (0 ∷ [])

@@ -1,4 +1,3 @@
 pub mod EndToEnd
 pub mod Encoding
 pub mod Exported
-pub mod Names

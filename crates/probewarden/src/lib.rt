@@ -1,7 +1,6 @@
 // What a unit calls: a program is verified and, if it is accepted, run. That an accepted program ends as it must is a consequence of the
 // contracts of `verify` and `interpret` and of the theorem about the analysis. Assumes nothing.
 mod exported;
-pub mod number;
 
 ghost use lib.ListN.{length};
 ghost use Rattle.probewarden.specs.EndToEnd.{EndToEnd};

@@ -1,12 +1,11 @@
-// What the verifier answers, in a line.
-// Assumes nothing.
+// What the verifier answers: in a line, and as an exit status.
 ghost use Prim.Native.Nat.{_≤_};
 ghost use lib.ListN.{length};
 use crate::numbers::write_number;
 use analysis::Finding;
 use analysis::Reason;
-use explain::reason::sentence;
-use probewarden::number::reason_number;
+use reasons::put_sentence;
+use reasons::reason_number;
 use text::page::write_letter;
 use verifier::Answer;
 
@@ -14,7 +13,7 @@ fn write_sentence(out: &mut [u8], at: usize, reason: Reason) -> usize
     requires { ⌜ at ≤ length (now out) ⌝ }
     ensures { λ r. ⌜ (at ≤ r) × (r ≤ length (now (out .entry))) ⌝ }
 {
-    sentence(reason, out, at)
+    put_sentence(out, at, reason)
 }
 
 fn write_refusal(out: &mut [u8], reason: Reason, place: u64) -> usize
@@ -51,5 +50,22 @@ pub fn answer_line(answer: Answer, n: u64, out: &mut [u8]) -> usize
             words,
             b" words of scratch memory\n",
         ),
+    }
+}
+
+// The digit of the exit status that goes with the answer: 0 yes, 1 no, 2 where nothing was answered.
+pub fn status_of(answer: Answer) -> u8 {
+    match answer {
+        Answer::Judgement(judged) => {
+            let finding = judged.finding;
+            match finding {
+                Finding::Accepted => b'0',
+                Finding::Refused {
+                    reason: _,
+                    place: _,
+                } => b'1',
+            }
+        }
+        Answer::ScratchTooSmall { words: _ } => b'2',
     }
 }

@@ -1,6 +1,4 @@
-// What `verify` and `run` answer, in a line, and the steps of a run, in a line each.
-// All on slices, with no input or output. Assumes nothing.
+// What the verifier answers, and what a run comes to, in a line each: all on slices, with no input or output.
 pub mod answer;
-mod numbers;
+pub mod numbers;
 pub mod outcome;
-pub mod trace;

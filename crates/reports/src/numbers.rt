@@ -1,5 +1,4 @@
 // Numbers within a sentence.
-// Assumes nothing.
 ghost use Prim.Native.Nat.{_≤_};
 ghost use lib.ListN.{length};
 use text::page::write_decimal;

@@ -1,13 +1,12 @@
-// What a run comes to, in a line.
-// Assumes nothing.
+// What a run comes to: in a line, and as an exit status.
 ghost use Prim.Native.Nat.{_≤_};
 ghost use lib.ListN.{length};
 use crate::numbers::write_number;
 use crate::numbers::write_word;
 use machine::outcome::Cause;
 use machine::outcome::Outcome;
-use probewarden::number::fault_number;
-use probewarden::number::put_fault;
+use reasons::fault_number;
+use reasons::put_fault;
 use text::page::write_text;
 
 fn write_fault_name(out: &mut [u8], at: usize, fault: u64) -> usize
@@ -113,4 +112,18 @@ pub fn refusal_line(program: usize, rec: usize, p: u64, s: u64, out: &mut [u8]) 
         return write_address(out, b"--stack-at ", s);
     }
     write_overlap(out, p, s)
+}
+
+// The digit of the exit status that goes with it: 0 for a verdict, 1 for a run that did not come to one, 2 for one that was refused.
+pub fn status_of_run(outcome: Outcome) -> u8 {
+    match outcome {
+        Outcome::Verdict { value: _, steps: _ } => b'0',
+        Outcome::Fault {
+            cause: _,
+            at: _,
+            steps: _,
+        } => b'1',
+        Outcome::Budget { steps: _ } => b'1',
+        Outcome::Refused => b'2',
+    }
 }

@@ -1,7 +1,7 @@
 -- `pw_fault_name`: the name, and a 0 after it.
 -- Assumes nothing.
 use Rattle.text.proofs.Puts.{put-both}
-use Rattle.probewarden.specs.Names.{ended}
+use Rattle.probewarden.specs.Encoding.{ended}
 use borrow.Author.Needs.{needs}
 use Rattle.probewarden.proofs.exported.pw_fault_name.Statement.{statement}
 use Rattle.probewarden.proofs.exported.pw_fault_name.Tie as tie

@@ -1,0 +1,101 @@
+// The verbs verify and help by themselves. They need neither the interpreter nor what explains, so that the first answer of a new
+// checkout has few crates to wait for; the script `probewarden` starts crate `command` for the other verbs.
+ghost use Prim.Native.Nat.{_≤_};
+ghost use lib.ListN.{length};
+ghost use Rattle.orders.specs.Orders.{Placed};
+use loading::Loaded;
+use orders::Order;
+use orders::Parsed;
+use orders::Verb;
+use orders::parse;
+use terminal::answer::judge;
+use terminal::arguments::help_on;
+use terminal::arguments::refuse_arguments;
+use terminal::arguments::refuse_words;
+use terminal::arguments::take_arguments;
+use terminal::ending::status;
+use terminal::program::fetch_program;
+
+fn judge_file(
+    args: &[u8],
+    order: Order,
+    file: &mut [u8],
+    bare: &mut [u8],
+    spelled: &mut [u8],
+    scratch: &mut [u64],
+    out: &mut [u8],
+)
+    requires { ⌜ Placed (length (now args)) order ⌝ }
+{
+    let record_len = order.length;
+    let loaded = fetch_program(args, order, file, bare, spelled, out);
+    match loaded {
+        Loaded::InFile { start, end } => judge(&file[start..end], record_len, scratch, out),
+        Loaded::Spelled { length } => judge(&spelled[0..length], record_len, scratch, out),
+        Loaded::BadObject(_) => {}
+        Loaded::BadDump(_) => {}
+        Loaded::Nothing => {}
+    }
+}
+
+fn obey(
+    args: &[u8],
+    order: Order,
+    file: &mut [u8],
+    bare: &mut [u8],
+    spelled: &mut [u8],
+    scratch: &mut [u64],
+    out: &mut [u8],
+)
+    requires { ⌜ Placed (length (now args)) order ⌝ }
+{
+    let verb = order.verb;
+    if let Verb::Verify = verb {
+        judge_file(args, order, file, bare, spelled, scratch, out);
+        return;
+    }
+    io::write_all(
+        2,
+        b"probewarden: this program has the verbs verify and help\n",
+    );
+    status(b'2');
+}
+
+fn serve(
+    args: &[u8],
+    file: &mut [u8],
+    bare: &mut [u8],
+    spelled: &mut [u8],
+    scratch: &mut [u64],
+    out: &mut [u8],
+) {
+    let parsed = parse(args);
+    match parsed {
+        Parsed::Do(order) => obey(args, order, file, bare, spelled, scratch, out),
+        Parsed::HelpOn(topic) => help_on(topic, out),
+        Parsed::Wrong { fault, at } => refuse_words(args, fault, at, out),
+    }
+}
+
+// Memory for the longest program in the longest text, and the verifier's.
+fn main() {
+    let mut args = [0u8; 65536];
+    let mut file = [0u8; 524288];
+    let mut bare = [0u8; 524288];
+    let mut spelled = [0u8; 262144];
+    let mut scratch = [0u64; 229376];
+    let mut out = [0u8; 4096];
+    let n = take_arguments(&mut args);
+    if n == args.len() {
+        refuse_arguments(&mut out);
+        return;
+    }
+    serve(
+        &args[0..n],
+        &mut file,
+        &mut bare,
+        &mut spelled,
+        &mut scratch,
+        &mut out,
+    );
+}
