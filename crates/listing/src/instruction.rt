@@ -1,25 +1,35 @@
-// An instruction in the syntax of LLVM's disassembler for BPF, version 14, with decimal immediates.
-// Assumes nothing.
+// An instruction as a form: which text it has, and the numbers in it.
 ghost use Prim.Native.Nat.{_≤_};
 ghost use lib.ListN.{length};
+use crate::form::Form;
+use crate::form::fixed;
+use crate::meaning::ALU;
+use crate::meaning::ALU_REGISTER;
+use crate::meaning::BRANCH;
+use crate::meaning::BRANCH_REGISTER;
+use crate::meaning::EXIT;
+use crate::meaning::GOTO;
+use crate::meaning::LOAD;
+use crate::meaning::NOTHING;
+use crate::meaning::STORE;
+use crate::meaning::STORE_REGISTER;
 use crate::sign::magnitude;
 use crate::sign::sign;
-use crate::sign::write_signed;
+use crate::words::comparison_word;
+use crate::words::operation_word;
+use crate::words::size_word;
 use machine::instruction::Instruction;
 use machine::instruction::Operand;
-use machine::instruction::Size;
 use machine::instruction::Width;
 use text::page::write_decimal;
 use text::page::write_letter;
-use text::page::write_text;
-use word::Comparison;
 use word::Operation;
 
 // A register's name: r at 64 bits, w for its low 32.
-fn letter(width: Width) -> u8 {
+fn letter(width: Width) -> u64 {
     match width {
-        Width::Long => b'r',
-        Width::Short => b'w',
+        Width::Long => 114,
+        Width::Short => 119,
     }
 }
 
@@ -31,168 +41,77 @@ pub fn write_register(out: &mut [u8], at: usize, prefix: u8, r: u64) -> usize
     write_decimal(out, a, r)
 }
 
-fn write_operand(out: &mut [u8], at: usize, prefix: u8, operand: Operand) -> usize
-    requires { ⌜ at ≤ length (now out) ⌝ }
-    ensures { λ r. ⌜ (at ≤ r) × (r ≤ length (now (out .entry))) ⌝ }
-{
+fn alu_form(prefix: u64, word: u64, dst: u64, operand: Operand) -> Form {
     match operand {
-        Operand::Immediate(n) => write_signed(out, at, n),
-        Operand::Register(r) => write_register(out, at, prefix, r),
+        Operand::Immediate(n) => Form {
+            entry: ALU,
+            numbers: [prefix, dst, word, n, 0, 0, 0, 0],
+        },
+        Operand::Register(src) => Form {
+            entry: ALU_REGISTER,
+            numbers: [prefix, dst, word, prefix, src, 0, 0, 0],
+        },
     }
 }
 
-fn write_operation(out: &mut [u8], at: usize, operation: Operation) -> usize
-    requires { ⌜ at ≤ length (now out) ⌝ }
-    ensures { λ r. ⌜ (at ≤ r) × (r ≤ length (now (out .entry))) ⌝ }
-{
-    match operation {
-        Operation::Add => write_text(out, at, b" += "),
-        Operation::Sub => write_text(out, at, b" -= "),
-        Operation::Mul => write_text(out, at, b" *= "),
-        Operation::Div => write_text(out, at, b" /= "),
-        Operation::Or => write_text(out, at, b" |= "),
-        Operation::And => write_text(out, at, b" &= "),
-        Operation::Lsh => write_text(out, at, b" <<= "),
-        Operation::Rsh => write_text(out, at, b" >>= "),
-        Operation::Neg => write_text(out, at, b" = -"),
-        Operation::Mod => write_text(out, at, b" %= "),
-        Operation::Xor => write_text(out, at, b" ^= "),
-        Operation::Mov => write_text(out, at, b" = "),
-        Operation::Arsh => write_text(out, at, b" s>>= "),
+fn branch_form(prefix: u64, word: u64, dst: u64, operand: Operand, off: u64) -> Form {
+    let way = sign(off) as u64;
+    let distance = magnitude(off);
+    match operand {
+        Operand::Immediate(n) => Form {
+            entry: BRANCH,
+            numbers: [prefix, dst, word, n, way, distance, 0, 0],
+        },
+        Operand::Register(src) => Form {
+            entry: BRANCH_REGISTER,
+            numbers: [prefix, dst, word, prefix, src, way, distance, 0],
+        },
     }
 }
 
-fn write_comparison(out: &mut [u8], at: usize, comparison: Comparison) -> usize
-    requires { ⌜ at ≤ length (now out) ⌝ }
-    ensures { λ r. ⌜ (at ≤ r) × (r ≤ length (now (out .entry))) ⌝ }
-{
-    match comparison {
-        Comparison::Eq => write_text(out, at, b" == "),
-        Comparison::Gt => write_text(out, at, b" > "),
-        Comparison::Ge => write_text(out, at, b" >= "),
-        Comparison::Set => write_text(out, at, b" & "),
-        Comparison::Ne => write_text(out, at, b" != "),
-        Comparison::Sgt => write_text(out, at, b" s> "),
-        Comparison::Sge => write_text(out, at, b" s>= "),
-        Comparison::Lt => write_text(out, at, b" < "),
-        Comparison::Le => write_text(out, at, b" <= "),
-        Comparison::Slt => write_text(out, at, b" s< "),
-        Comparison::Sle => write_text(out, at, b" s<= "),
+fn store_form(word: u64, dst: u64, off: u64, operand: Operand) -> Form {
+    let side = sign(off) as u64;
+    let distance = magnitude(off);
+    match operand {
+        Operand::Immediate(n) => Form {
+            entry: STORE,
+            numbers: [word, dst, side, distance, n, 0, 0, 0],
+        },
+        Operand::Register(src) => Form {
+            entry: STORE_REGISTER,
+            numbers: [word, dst, side, distance, src, 0, 0, 0],
+        },
     }
 }
 
-fn write_alu(
-    out: &mut [u8],
-    at: usize,
-    prefix: u8,
-    operation: Operation,
-    dst: u64,
-    operand: Operand,
-) -> usize
-    requires { ⌜ at ≤ length (now out) ⌝ }
-    ensures { λ r. ⌜ (at ≤ r) × (r ≤ length (now (out .entry))) ⌝ }
-{
-    let a = write_register(out, at, prefix, dst);
-    let b = write_operation(out, a, operation);
-    write_operand(out, b, prefix, operand)
-}
-
-fn write_goto(out: &mut [u8], at: usize, off: u64) -> usize
-    requires { ⌜ at ≤ length (now out) ⌝ }
-    ensures { λ r. ⌜ (at ≤ r) × (r ≤ length (now (out .entry))) ⌝ }
-{
-    let a = write_text(out, at, b"goto ");
-    let b = write_letter(out, a, sign(off));
-    write_decimal(out, b, magnitude(off))
-}
-
-fn write_branch(
-    out: &mut [u8],
-    at: usize,
-    prefix: u8,
-    comparison: Comparison,
-    dst: u64,
-    operand: Operand,
-    off: u64,
-) -> usize
-    requires { ⌜ at ≤ length (now out) ⌝ }
-    ensures { λ r. ⌜ (at ≤ r) × (r ≤ length (now (out .entry))) ⌝ }
-{
-    let a = write_text(out, at, b"if ");
-    let b = write_register(out, a, prefix, dst);
-    let c = write_comparison(out, b, comparison);
-    let d = write_operand(out, c, prefix, operand);
-    let e = write_letter(out, d, b' ');
-    write_goto(out, e, off)
-}
-
-fn write_size(out: &mut [u8], at: usize, size: Size) -> usize
-    requires { ⌜ at ≤ length (now out) ⌝ }
-    ensures { λ r. ⌜ (at ≤ r) × (r ≤ length (now (out .entry))) ⌝ }
-{
-    match size {
-        Size::One => write_text(out, at, b"u8"),
-        Size::Two => write_text(out, at, b"u16"),
-        Size::Four => write_text(out, at, b"u32"),
-        Size::Eight => write_text(out, at, b"u64"),
+fn load_form(word: u64, dst: u64, src: u64, off: u64) -> Form {
+    let side = sign(off) as u64;
+    Form {
+        entry: LOAD,
+        numbers: [dst, word, src, side, magnitude(off), 0, 0, 0],
     }
 }
 
-fn write_distance(out: &mut [u8], at: usize, off: u64) -> usize
-    requires { ⌜ at ≤ length (now out) ⌝ }
-    ensures { λ r. ⌜ (at ≤ r) × (r ≤ length (now (out .entry))) ⌝ }
-{
-    let a = write_letter(out, at, b' ');
-    let b = write_letter(out, a, sign(off));
-    let c = write_letter(out, b, b' ');
-    write_decimal(out, c, magnitude(off))
+fn goto_form(off: u64) -> Form {
+    let way = sign(off) as u64;
+    Form {
+        entry: GOTO,
+        numbers: [way, magnitude(off), 0, 0, 0, 0, 0, 0],
+    }
 }
 
-fn write_place(out: &mut [u8], at: usize, size: Size, base: u64, off: u64) -> usize
-    requires { ⌜ at ≤ length (now out) ⌝ }
-    ensures { λ r. ⌜ (at ≤ r) × (r ≤ length (now (out .entry))) ⌝ }
-{
-    let a = write_text(out, at, b"*(");
-    let b = write_size(out, a, size);
-    let c = write_text(out, b, b" *)(");
-    let d = write_register(out, c, b'r', base);
-    let e = write_distance(out, d, off);
-    write_letter(out, e, b')')
-}
-
-fn write_load(out: &mut [u8], at: usize, size: Size, dst: u64, src: u64, off: u64) -> usize
-    requires { ⌜ at ≤ length (now out) ⌝ }
-    ensures { λ r. ⌜ (at ≤ r) × (r ≤ length (now (out .entry))) ⌝ }
-{
-    let a = write_register(out, at, b'r', dst);
-    let b = write_text(out, a, b" = ");
-    write_place(out, b, size, src, off)
-}
-
-fn write_store(out: &mut [u8], at: usize, size: Size, dst: u64, off: u64, operand: Operand) -> usize
-    requires { ⌜ at ≤ length (now out) ⌝ }
-    ensures { λ r. ⌜ (at ≤ r) × (r ≤ length (now (out .entry))) ⌝ }
-{
-    let a = write_place(out, at, size, dst, off);
-    let b = write_text(out, a, b" = ");
-    write_operand(out, b, b'r', operand)
-}
-
-// Writes an instruction; of what is none, nothing.
-pub fn write_instruction(out: &mut [u8], at: usize, instruction: Instruction) -> usize
-    requires { ⌜ at ≤ length (now out) ⌝ }
-    ensures { λ r. ⌜ (at ≤ r) × (r ≤ length (now (out .entry))) ⌝ }
-{
+// What is no instruction has a form that is empty.
+pub fn form_of(instruction: Instruction) -> Form {
     match instruction {
         Instruction::Alu {
             width,
             operation,
             dst,
             operand,
-        } => write_alu(out, at, letter(width), operation, dst, operand),
+        } => alu_form(letter(width), operation_word(operation), dst, operand),
         Instruction::Neg { width, dst } => {
-            let prefix = letter(width);
-            write_alu(out, at, prefix, Operation::Neg, dst, Operand::Register(dst))
+            let word = operation_word(Operation::Neg);
+            alu_form(letter(width), word, dst, Operand::Register(dst))
         }
         Instruction::Jump {
             width,
@@ -200,21 +119,27 @@ pub fn write_instruction(out: &mut [u8], at: usize, instruction: Instruction) ->
             dst,
             operand,
             off,
-        } => write_branch(out, at, letter(width), comparison, dst, operand, off),
-        Instruction::Always { off } => write_goto(out, at, off),
-        Instruction::Exit => write_text(out, at, b"exit"),
+        } => branch_form(
+            letter(width),
+            comparison_word(comparison),
+            dst,
+            operand,
+            off,
+        ),
+        Instruction::Always { off } => goto_form(off),
+        Instruction::Exit => fixed(EXIT),
         Instruction::Load {
             size,
             dst,
             src,
             off,
-        } => write_load(out, at, size, dst, src, off),
+        } => load_form(size_word(size), dst, src, off),
         Instruction::Store {
             size,
             dst,
             off,
             operand,
-        } => write_store(out, at, size, dst, off, operand),
-        Instruction::NoInstruction => at,
+        } => store_form(size_word(size), dst, off, operand),
+        Instruction::NoInstruction => fixed(NOTHING),
     }
 }

@@ -1,17 +1,36 @@
 // An index of a program as a line: its number, its bytes, and the instruction that they are.
-// Assumes nothing.
 ghost use Prim.Native.Nat.{_+_, _≤_};
 ghost use lib.ListN.{length};
 ghost use Rattle.listing.specs.Announced.{Announced};
-use crate::instruction::write_instruction;
-use crate::rule::write_byte;
-use crate::rule::write_rule;
+use crate::form::Form;
+use crate::form::filled;
+use crate::form::write_form;
+use crate::instruction::form_of;
+use crate::meaning::CUT_SHORT;
+use crate::meaning::CUT_TO_ONE;
+use crate::meaning::IMM_IS_SET;
+use crate::meaning::NO_OPCODE;
+use crate::meaning::write_meaning;
+use crate::rule::rule_of;
 use machine::instruction::Instruction;
 use machine::instruction::decode;
 use text::buffer::put_text;
 use text::page::write_decimal;
 use text::page::write_letter;
 use text::page::write_text;
+use text::table::write_entry;
+use text::table::write_filled;
+
+// Where a number that ends at k is shown from: eight characters before, or from its first digit on.
+fn shown_from(k: usize) -> usize
+    requires { ⌜ 8 ≤ k ⌝ }
+    ensures { λ r. ⌜ r ≤ k ⌝ }
+{
+    if 16 < k {
+        return 8;
+    }
+    k - 8
+}
 
 // The number, with spaces before it where it has fewer than eight digits.
 fn write_index(out: &mut [u8], at: usize, i: usize) -> usize
@@ -20,22 +39,24 @@ fn write_index(out: &mut [u8], at: usize, i: usize) -> usize
 {
     let mut digits = [b' '; 28];
     let k = write_decimal(&mut digits, 8, i as u64);
-    if 16 < k {
-        return write_text(out, at, &digits[8..k]);
-    }
-    write_text(out, at, &digits[k - 8..k])
+    let from = shown_from(k);
+    write_text(out, at, &digits[from..k])
 }
 
-// The byte at j, after a space where it is not the first.
-fn write_next(out: &mut [u8], at: usize, bytes: &[u8], j: usize) -> usize
-    requires { ⌜ (at ≤ length (now out)) × (j + 1 ≤ length (now bytes)) ⌝ }
+// Two digits, after a space where they are not the first.
+fn byte_form(b: u8, j: usize) -> Form {
+    let numbers = [(b / 16) as u64, (b % 16) as u64, 0, 0, 0, 0, 0, 0];
+    if j == 0 {
+        return Form { entry: 0, numbers };
+    }
+    Form { entry: 1, numbers }
+}
+
+fn write_byte(out: &mut [u8], at: usize, b: u8, j: usize) -> usize
+    requires { ⌜ at ≤ length (now out) ⌝ }
     ensures { λ r. ⌜ (at ≤ r) × (r ≤ length (now (out .entry))) ⌝ }
 {
-    if j == 0 {
-        return write_byte(out, at, bytes[j]);
-    }
-    let a = write_letter(out, at, b' ');
-    write_byte(out, a, bytes[j])
+    write_form(out, at, b"^^\n ^^\n", byte_form(b, j))
 }
 
 fn write_bytes(out: &mut [u8], at: usize, bytes: &[u8]) -> usize
@@ -45,43 +66,87 @@ fn write_bytes(out: &mut [u8], at: usize, bytes: &[u8]) -> usize
     let mut o = at;
     let mut j = 0;
     while j < bytes.len() {
-        o = write_next(out, o, bytes, j);
+        o = write_byte(out, o, bytes[j], j);
         j += 1;
     }
     o
 }
 
 // The first byte of index i, or the program's end.
-fn first_byte(program: &[u8], i: usize) -> usize
-    ensures { λ r. ⌜ r ≤ length (now (program .entry)) ⌝ }
+fn first_byte(size: usize, i: usize) -> usize
+    ensures { λ r. ⌜ r ≤ size ⌝ }
 {
-    if program.len() / 8 < i {
-        return program.len();
+    if size / 8 < i {
+        return size;
     }
     i * 8
 }
 
-// What the eight bytes at `from` are.
-fn write_meaning(out: &mut [u8], at: usize, program: &[u8], from: usize) -> usize
-    requires { ⌜ (at ≤ length (now out)) × (from + 8 ≤ length (now program)) ⌝ }
-    ensures { λ r. ⌜ (at ≤ r) × (r ≤ length (now (out .entry))) ⌝ }
+// The end of the eight bytes at `from`, or the program's.
+fn last_byte(size: usize, from: usize) -> usize
+    requires { ⌜ from ≤ size ⌝ }
+    ensures { λ r. ⌜ (from ≤ r) × (r ≤ size) ⌝ }
 {
-    let instruction = decode(program, from);
-    if let Instruction::NoInstruction = instruction {
-        let a = write_text(out, at, b"<no instruction: ");
-        let b = write_rule(out, a, &program[from..from + 8]);
-        return write_letter(out, b, b'>');
+    if size - from < 8 {
+        return size;
     }
-    write_instruction(out, at, instruction)
+    from + 8
 }
 
-fn write_whole(out: &mut [u8], at: usize, program: &[u8], from: usize) -> usize
-    requires { ⌜ (at ≤ length (now out)) × (from + 8 ≤ length (now program)) ⌝ }
+// Which of two texts counts n bytes.
+fn is_one(n: u64) -> u64 {
+    if n == 1 {
+        return 1;
+    }
+    0
+}
+
+fn cut_short(n: u64) -> Form {
+    if n == 1 {
+        return filled(CUT_TO_ONE, n);
+    }
+    filled(CUT_SHORT, n)
+}
+
+// What the bytes at `from` are.
+fn meaning_at(program: &[u8], from: usize) -> Form
+    requires { ⌜ from ≤ length (now program) ⌝ }
+{
+    let left = program.len() - from;
+    if left < 8 {
+        return cut_short(left as u64);
+    }
+    let instruction = decode(program, from);
+    if let Instruction::NoInstruction = instruction {
+        return rule_of(
+            program[from],
+            program[from + 1],
+            program[from + 2],
+            program[from + 3],
+        );
+    }
+    form_of(instruction)
+}
+
+// Whether a form is a rule by which bytes are no instruction.
+fn is_rule(form: u64) -> u64 {
+    if form < NO_OPCODE {
+        return 0;
+    }
+    if IMM_IS_SET < form {
+        return 0;
+    }
+    1
+}
+
+fn write_told(out: &mut [u8], at: usize, form: Form) -> usize
+    requires { ⌜ at ≤ length (now out) ⌝ }
     ensures { λ r. ⌜ (at ≤ r) × (r ≤ length (now (out .entry))) ⌝ }
 {
-    let a = write_bytes(out, at, &program[from..from + 8]);
-    let b = write_letter(out, a, b'\t');
-    write_meaning(out, b, program, from)
+    let rule = is_rule(form.entry);
+    let a = write_entry(out, at, b"\t\n\t<no instruction: \n", rule);
+    let b = write_meaning(out, a, form);
+    write_entry(out, b, b"\n>\n", rule)
 }
 
 // How many bytes, in words.
@@ -89,21 +154,7 @@ pub fn write_count(out: &mut [u8], at: usize, n: u64) -> usize
     requires { ⌜ at ≤ length (now out) ⌝ }
     ensures { λ r. ⌜ (at ≤ r) × (r ≤ length (now (out .entry))) ⌝ }
 {
-    let a = write_decimal(out, at, n);
-    if n == 1 {
-        return write_text(out, a, b" byte");
-    }
-    write_text(out, a, b" bytes")
-}
-
-fn write_part(out: &mut [u8], at: usize, part: &[u8]) -> usize
-    requires { ⌜ at ≤ length (now out) ⌝ }
-    ensures { λ r. ⌜ (at ≤ r) × (r ≤ length (now (out .entry))) ⌝ }
-{
-    let a = write_bytes(out, at, part);
-    let b = write_text(out, a, b"\t<cut short: ");
-    let c = write_count(out, b, part.len() as u64);
-    write_text(out, c, b" of 8>")
+    write_filled(out, at, b"# bytes\n# byte\n", is_one(n), n)
 }
 
 // The line of index i without its end.
@@ -111,13 +162,13 @@ pub fn write_line(out: &mut [u8], at: usize, program: &[u8], i: usize) -> usize
     requires { ⌜ at ≤ length (now out) ⌝ }
     ensures { λ r. ⌜ (at ≤ r) × (r ≤ length (now (out .entry))) ⌝ }
 {
+    let from = first_byte(program.len(), i);
+    let end = last_byte(program.len(), from);
+    let meaning = meaning_at(program, from);
     let a = write_index(out, at, i);
     let b = write_text(out, a, b":\t");
-    let from = first_byte(program, i);
-    if program.len() - from < 8 {
-        return write_part(out, b, &program[from..program.len()]);
-    }
-    write_whole(out, b, program, from)
+    let c = write_bytes(out, b, &program[from..end]);
+    write_told(out, c, meaning)
 }
 
 // Ends a line at `at`. Where there is no room for the end, or just room, the last four characters of `out` say that text may be missing.

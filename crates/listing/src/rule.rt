@@ -1,82 +1,66 @@
 // Why eight bytes are no instruction.
-// Assumes nothing.
-ghost use Prim.Native.Nat.{_≤_, _<_};
+ghost use Prim.Native.Nat.{_≤_};
 ghost use lib.ListN.{length};
-use crate::instruction::write_register;
+use crate::form::Form;
+use crate::form::filled;
+use crate::form::fixed;
+use crate::meaning::DST_IS_SET;
+use crate::meaning::IMM_IS_SET;
+use crate::meaning::NO_OPCODE;
+use crate::meaning::NO_REGISTER;
+use crate::meaning::OFF_IS_SET;
+use crate::meaning::SRC_IS_SET;
+use crate::meaning::write_meaning;
 use machine::instruction::Instruction;
 use machine::instruction::decode;
-use text::page::write_letter;
-use text::page::write_text;
 
-fn is_instruction(b: &[u8]) -> bool {
-    match decode(b, 0) {
+// Whether these fields are those of an instruction, with an immediate of 0.
+fn is_instruction(opcode: u8, registers: u8, low: u8, high: u8) -> bool {
+    let b = [opcode, registers, low, high, 0, 0, 0, 0];
+    match decode(&b, 0) {
         Instruction::NoInstruction => false,
         _ => true,
     }
 }
 
-fn glyph(d: u8) -> u8
-    requires { ⌜ d < 16 ⌝ }
-{
-    if d < 10 {
-        return 48 + d;
+fn opcode_rule(opcode: u8) -> Form {
+    Form {
+        entry: NO_OPCODE,
+        numbers: [(opcode / 16) as u64, (opcode % 16) as u64, 0, 0, 0, 0, 0, 0],
     }
-    87 + d
-}
-
-// Two hexadecimal digits.
-pub fn write_byte(out: &mut [u8], at: usize, b: u8) -> usize
-    requires { ⌜ at ≤ length (now out) ⌝ }
-    ensures { λ r. ⌜ (at ≤ r) × (r ≤ length (now (out .entry))) ⌝ }
-{
-    let a = write_letter(out, at, glyph(b / 16));
-    write_letter(out, a, glyph(b % 16))
-}
-
-fn write_opcode(out: &mut [u8], at: usize, opcode: u8) -> usize
-    requires { ⌜ at ≤ length (now out) ⌝ }
-    ensures { λ r. ⌜ (at ≤ r) × (r ≤ length (now (out .entry))) ⌝ }
-{
-    let a = write_text(out, at, b"opcode 0x");
-    let b = write_byte(out, a, opcode);
-    write_text(out, b, b" is not in the instruction set")
 }
 
 // A field that names a register: there is none of that number, or the field must be 0.
-fn write_field(out: &mut [u8], at: usize, field: u8, zero: &[u8]) -> usize
-    requires { ⌜ at ≤ length (now out) ⌝ }
-    ensures { λ r. ⌜ (at ≤ r) × (r ≤ length (now (out .entry))) ⌝ }
-{
+fn field_rule(field: u8, must_be_0: u64) -> Form {
     if field <= 10 {
-        return write_text(out, at, zero);
+        return fixed(must_be_0);
     }
-    let a = write_text(out, at, b"there is no register ");
-    write_register(out, a, b'r', field as u64)
+    filled(NO_REGISTER, field as u64)
 }
 
-// Which rule the eight bytes at the start of `b` break: the opcode's, with all other fields 0; or that of the first field, in the order
-// dst, src, off, imm, with which those before it are no instruction any more. Of bytes that are an instruction it says the last rule.
+// Which rule eight bytes break, of which these are the first four: the opcode's, with all other fields 0; or that of the first field, in
+// the order dst, src, off, imm, with which those before it are no instruction any more. Of an instruction's it is the last rule.
+pub fn rule_of(opcode: u8, registers: u8, low: u8, high: u8) -> Form {
+    if !is_instruction(opcode, 0, 0, 0) {
+        return opcode_rule(opcode);
+    }
+    if !is_instruction(opcode, registers % 16, 0, 0) {
+        return field_rule(registers % 16, DST_IS_SET);
+    }
+    if !is_instruction(opcode, registers, 0, 0) {
+        return field_rule(registers / 16, SRC_IS_SET);
+    }
+    if !is_instruction(opcode, registers, low, high) {
+        return fixed(OFF_IS_SET);
+    }
+    fixed(IMM_IS_SET)
+}
+
+// Writes the rule that the eight bytes at the start of `b` break.
 pub fn write_rule(out: &mut [u8], at: usize, b: &[u8]) -> usize
     requires { ⌜ (at ≤ length (now out)) × (8 ≤ length (now b)) ⌝ }
     ensures { λ r. ⌜ (at ≤ r) × (r ≤ length (now (out .entry))) ⌝ }
 {
-    let mut a = [0u8; 8];
-    a[0] = b[0];
-    if !is_instruction(&a) {
-        return write_opcode(out, at, b[0]);
-    }
-    a[1] = b[1] % 16;
-    if !is_instruction(&a) {
-        return write_field(out, at, b[1] % 16, b"dst must be 0");
-    }
-    a[1] = b[1];
-    if !is_instruction(&a) {
-        return write_field(out, at, b[1] / 16, b"src must be 0");
-    }
-    a[2] = b[2];
-    a[3] = b[3];
-    if !is_instruction(&a) {
-        return write_text(out, at, b"off must be 0");
-    }
-    write_text(out, at, b"imm must be 0")
+    let rule = rule_of(b[0], b[1], b[2], b[3]);
+    write_meaning(out, at, rule)
 }
