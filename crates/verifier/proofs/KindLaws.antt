@@ -1,4 +1,4 @@
--- Values by their kinds: what covers two, what may be read, and what each instruction does with values of these kinds.
+-- What may be read, and what each instruction does, by the kinds of the values.
 use Prim.Native.Nat.{ℕ, zero, suc, _<_}
 use mathlib.Core.Path.{_≡_, refl, ap, ap₂, _∙_}
 use mathlib.Core.Bool.{true, false, cond, not, _&&_, _||_}
@@ -12,7 +12,7 @@ use Rattle.machine.specs.declared.instruction.Width.{Width}
 use Rattle.machine.specs.declared.instruction.Width.the-variants.{Long, Short}
 use Rattle.machine.specs.declared.instruction.Operand.{Operand}
 use Rattle.number.specs.declared.Number.{Number}
-use Rattle.number.specs.Sharpen.{exact, joinedNumber, loaded}
+use Rattle.number.specs.Sharpen.{exact, loaded}
 use Rattle.number.specs.Computed.{computed, fits}
 use Rattle.analysis.specs.declared.Reason.the-variants.{Outside}
 use Rattle.analysis.specs.declared.Gone.the-variants.{Never, Mixed}
@@ -20,9 +20,9 @@ use Rattle.analysis.specs.declared.Value.{Value}
 use Rattle.analysis.specs.declared.Value.the-variants.{Unusable, Plain, Address}
 use Rattle.analysis.specs.declared.Effect.{Effect}
 use Rattle.analysis.specs.declared.Effect.the-variants.{Refuse, Keep, Fork, Stop}
-use Rattle.analysis.specs.Values.{joinedValue, joinedGone, sameRegion}
 use Rattle.analysis.specs.Effects.{isNever, isMixed, reading, readingBoth, put, adds, subtracts, calculates, role, calculate, sum, difference, arithmetic, limit, load, storeAt, store, told, fork, exit}
-use Rattle.waiting.specs.State.{ofKind, joinedKind}
+use Rattle.waiting.specs.State.{ofKind}
+use Rattle.waiting.proofs.ByKind.{by-kind, far-kind}
 use Rattle.verifier.specs.Outcome.{reasonOf, unusable, movedKind, resultKind}
 
 -- ---- what is read

@@ -41,9 +41,6 @@ use Rattle.waiting.specs.State.{ofKind, heldIn, heldAt, factsAt, IsSingle, AreS
 use Rattle.waiting.specs.Store.{waitingIn}
 use Rattle.verifier.specs.Sending.{Sent}
 use Rattle.waiting.specs.Layout.{stateOf}
-use Rattle.waiting.proofs.States.{register-in-range}
-
--- ---- the words of one number
 
 pub one-is-told : {r : Single} {u : Value} (x : ℕ) → r ≡ single.One x → IsSingle r u → u ≡ Plain (exact x)
 one-is-told {r} {u} x e h = subst (λ s. IsSingle s u) e h

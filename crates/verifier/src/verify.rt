@@ -45,7 +45,7 @@ fn annotate_orderly(program: &[u8], n: usize, record_len: u64, scratch: &mut [u6
         Finding::Accepted => {
             if scratch.len() < BLOCK_WORDS * n {
                 return Answer::ScratchTooSmall {
-                    words: BLOCK_WORDS * n as u64,
+                    words: (BLOCK_WORDS as u64) * n as u64,
                 };
             }
             Answer::Judgement(follow(program, n, record_len, scratch))
