@@ -13,7 +13,8 @@ use Rattle.analysis.specs.Judged.{followed}
 use Rattle.verifier.specs.declared.inspect.Known.{Known}
 use Rattle.verifier.specs.Answered.{passesForm, Annotates}
 use Rattle.verifier.specs.Inspect.{knownOf}
-use Rattle.verifier.specs.Scratch.{words, waitingIn}
+use Rattle.waiting.specs.Layout.{words}
+use Rattle.waiting.specs.Store.{waitingIn}
 use Rattle.explain.specs.Known.{toldText, knownText, PutKnown}
 
 pub what-is-told : (n : ℕ) (m : List ℕ) (i r : ℕ) (out : List ℕ) (at : ℕ) (out′ : List ℕ) (e : ℕ) (k : Known) → (words n ≤ length m → k ≡ knownOf (waitingIn n m i) r) → Put out at (toldText k) out′ e → PutKnown n m i r out at out′ e

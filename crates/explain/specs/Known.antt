@@ -10,7 +10,8 @@ use Rattle.analysis.specs.Values.{Facts}
 use Rattle.verifier.specs.declared.inspect.Known.{Known}
 use Rattle.verifier.specs.declared.inspect.Known.the-variants.{Unreached, Has}
 use Rattle.verifier.specs.Inspect.{knownOf}
-use Rattle.verifier.specs.Scratch.{words, waitingIn}
+use Rattle.waiting.specs.Layout.{words}
+use Rattle.waiting.specs.Store.{waitingIn}
 
 unfoldable pub toldText : Known → List ℕ
 toldText Unreached = chars "not reached"

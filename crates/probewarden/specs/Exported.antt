@@ -8,7 +8,7 @@ use lib.ListN.{length}
 use lib.Dec.{leb}
 use Rattle.machine.specs.Machine.{interpreted}
 use Rattle.analysis.specs.Safe.{Safe}
-use Rattle.verifier.specs.Scratch.{words}
+use Rattle.waiting.specs.Layout.{words}
 use Rattle.verifier.specs.Answered.{answered}
 use Rattle.probewarden.specs.Encoding.{answerSaid, outcomeSaid, headed}
 

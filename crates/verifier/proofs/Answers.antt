@@ -1,5 +1,4 @@
 -- The verifier's answer in each case, and what scratch memory holds then.
--- Assumes nothing.
 use Prim.Native.Nat.{ℕ, _+_, _*_, _/_, _%_, _≤_, _<_}
 use mathlib.Core.Path.{_≡_, refl, sym, ap, _∙_}
 use mathlib.Core.Bool.{Bool, true, false, not, _||_}
@@ -18,7 +17,8 @@ use Rattle.analysis.specs.Judged.{formed, onPaths, onForm, judged}
 use Rattle.analysis.specs.Paths.{connected}
 use Rattle.verifier.specs.declared.Answer.{Answer}
 use Rattle.verifier.specs.declared.Answer.the-variants.{Judgement, ScratchTooSmall}
-use Rattle.verifier.specs.Scratch.{words, Followed}
+use Rattle.waiting.specs.Layout.{words, blockWords}
+use Rattle.verifier.specs.Sending.{Followed}
 use Rattle.verifier.specs.Answered.{isAccepted, passesForm, answered, Answers}
 
 true-is-not-false : (b : Bool) → b ≡ true → b ≡ false → ⊥
@@ -65,25 +65,25 @@ module _ (program : List ℕ) (R n : ℕ) (m : List ℕ) (g : Finding) (good : b
   unfolding passesForm badRecord isAccepted
   passes is = rw (good, le-ltb 1024 R short, tests, sym paths, is)
 
-  pub too-little-memory : g ≡ Accepted → length m < 56 * n → Answers program R m m (ScratchTooSmall (56 * n))
+  pub too-little-memory : g ≡ Accepted → length m < blockWords * n → Answers program R m m (ScratchTooSmall (blockWords * n))
   unfolding answered words
   too-little-memory is less = (
-    rw (passes is, sym size, lt-ltb (length m) (56 * n) less),
+    rw (passes is, sym size, lt-ltb (length m) (blockWords * n) less),
     (
-      record { holds = λ p q j. absurd (true-is-not-false _ (rw (sym size) (lt-ltb (length m) (56 * n) less)) q) },
+      record { holds = λ p q j. absurd (true-is-not-false _ (rw (sym size) (lt-ltb (length m) (blockWords * n) less)) q) },
       record { form = λ p. refl; small = λ p. refl },
     ),
   )
 
-  pub the-values-were-followed : (m′ : List ℕ) (r : Judged) → g ≡ Accepted → 56 * n ≤ length m → Followed program R n r m m′ → Answers program R m m′ (Judgement r)
+  pub the-values-were-followed : (m′ : List ℕ) (r : Judged) → g ≡ Accepted → blockWords * n ≤ length m → Followed program R n r m m′ → Answers program R m m′ (Judgement r)
   unfolding answered words judged onForm onPaths badRecord
   the-values-were-followed m′ r is enough h = (
-    rw (passes is, sym size, le-ltb (length m) (56 * n) enough, good, le-ltb 1024 R short, size, tests, sym paths, is) (ap Judgement (h .found)),
+    rw (passes is, sym size, le-ltb (length m) (blockWords * n) enough, good, le-ltb 1024 R short, size, tests, sym paths, is) (ap Judgement (h .found)),
     (
       record { holds = λ p q j. rw (sym size) (ap (λ w. w j) (h .waits)) },
       record {
         form = λ p. absurd (true-is-not-false _ (passes is) p);
-        small = λ p. absurd (true-is-not-false _ p (rw (sym size) (le-ltb (length m) (56 * n) enough)));
+        small = λ p. absurd (true-is-not-false _ p (rw (sym size) (le-ltb (length m) (blockWords * n) enough)));
       },
     ),
   )

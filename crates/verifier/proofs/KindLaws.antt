@@ -1,5 +1,4 @@
--- Values by their kinds: what covers two, what may be read, and what each instruction does with values of these kinds.
--- Assumes nothing.
+-- What may be read, and what each instruction does, by the kinds of the values.
 use Prim.Native.Nat.{ℕ, zero, suc, _<_}
 use mathlib.Core.Path.{_≡_, refl, ap, ap₂, _∙_}
 use mathlib.Core.Bool.{true, false, cond, not, _&&_, _||_}
@@ -13,7 +12,7 @@ use Rattle.machine.specs.declared.instruction.Width.{Width}
 use Rattle.machine.specs.declared.instruction.Width.the-variants.{Long, Short}
 use Rattle.machine.specs.declared.instruction.Operand.{Operand}
 use Rattle.number.specs.declared.Number.{Number}
-use Rattle.number.specs.Sharpen.{exact, joinedNumber, loaded}
+use Rattle.number.specs.Sharpen.{exact, loaded}
 use Rattle.number.specs.Computed.{computed, fits}
 use Rattle.analysis.specs.declared.Reason.the-variants.{Outside}
 use Rattle.analysis.specs.declared.Gone.the-variants.{Never, Mixed}
@@ -21,73 +20,10 @@ use Rattle.analysis.specs.declared.Value.{Value}
 use Rattle.analysis.specs.declared.Value.the-variants.{Unusable, Plain, Address}
 use Rattle.analysis.specs.declared.Effect.{Effect}
 use Rattle.analysis.specs.declared.Effect.the-variants.{Refuse, Keep, Fork, Stop}
-use Rattle.analysis.specs.Values.{joinedValue, joinedGone, sameRegion}
 use Rattle.analysis.specs.Effects.{isNever, isMixed, reading, readingBoth, put, adds, subtracts, calculates, role, calculate, sum, difference, arithmetic, limit, load, storeAt, store, told, fork, exit}
-use Rattle.verifier.specs.Scratch.{ofKind, joinedKind}
+use Rattle.waiting.specs.State.{ofKind}
+use Rattle.waiting.proofs.ByKind.{by-kind, far-kind}
 use Rattle.verifier.specs.Outcome.{reasonOf, unusable, movedKind, resultKind}
-
--- ---- a kind from 4 on is told apart from the others by each test
-
-not-unset : (k : ℕ) → 3 < k → eqb k 0 ≡ false
-not-unset k far = ne-eqb k 0 (λ e. omega arith)
-
-not-mixed : (k : ℕ) → 3 < k → eqb k 1 ≡ false
-not-mixed k far = ne-eqb k 1 (λ e. omega arith)
-
-not-a-number : (k : ℕ) → 3 < k → eqb k 2 ≡ false
-not-a-number k far = ne-eqb k 2 (λ e. omega arith)
-
-not-in-the-record : (k : ℕ) → 3 < k → eqb k 3 ≡ false
-not-in-the-record k far = ne-eqb k 3 (λ e. omega arith)
-
-usable : (k : ℕ) → 3 < k → ltb k 2 ≡ false
-usable k far = le-ltb k 2 (omega arith)
-
-not-below-four : (k : ℕ) → 3 < k → ltb k 4 ≡ false
-not-below-four k far = le-ltb k 4 (omega arith)
-
-above-three : (k : ℕ) → 3 < k → ltb 3 k ≡ true
-above-three k far = lt-ltb 3 k far
-
-ruleset far-kind = (not-unset, not-mixed, not-a-number, not-in-the-record, usable, not-below-four, above-three)
-
-by-kind : (P : ℕ → Type 0) → P 0 → P 1 → P 2 → P 3 → ((k : ℕ) → 3 < k → P k) → (k : ℕ) → P k
-by-kind P unset mixed number into-record into-stack zero = unset
-by-kind P unset mixed number into-record into-stack (suc zero) = mixed
-by-kind P unset mixed number into-record into-stack (suc (suc zero)) = number
-by-kind P unset mixed number into-record into-stack (suc (suc (suc zero))) = into-record
-by-kind P unset mixed number into-record into-stack (suc (suc (suc (suc k)))) = into-stack (suc (suc (suc (suc k)))) (omega arith)
-
--- ---- what covers two values
-
-pub no-number-is-held : (k : ℕ) (a b : Number) → k < 2 → ofKind k a ≡ ofKind k b
-unfolding ofKind
-no-number-is-held zero a b l = refl
-no-number-is-held (suc zero) a b l = refl
-no-number-is-held (suc (suc k)) a b l = absurd (omega arith)
-
-module _ (a b : Number) where
-  abbrev Joins : ℕ → ℕ → Type 0
-  Joins x y =
-      ofKind (joinedKind x y) (joinedNumber a b) ≡ joinedValue (ofKind x a) (ofKind y b)
-
-  pub kinds-are-joined : (x y : ℕ) → Joins x y
-  unfolding ofKind joinedKind joinedValue joinedGone sameRegion
-  kinds-are-joined x y =
-      by-kind (λ k. Joins k y)
-      (by-kind (Joins 0) refl refl refl refl (λ y far. simp far-kind) y)
-      (by-kind (Joins 1) refl refl refl refl (λ y far. simp far-kind) y)
-      (by-kind (Joins 2) refl refl refl refl (λ y far. simp far-kind) y)
-      (by-kind (Joins 3) refl refl refl refl (λ y far. simp far-kind) y)
-      (λ k far. by-kind (Joins k) (simp far-kind) (simp far-kind) (simp far-kind) (simp far-kind) (λ l farther. simp far-kind) y)
-      x
-
-  pub joined-with-no-number : (k x y : ℕ) (n : Number) → k ≡ joinedKind x y → k < 2 → ofKind k n ≡ joinedValue (ofKind x a) (ofKind y b)
-  joined-with-no-number k x y n e l =
-      no-number-is-held k n (joinedNumber a b) l ∙ ap (λ j. ofKind j (joinedNumber a b)) e ∙ kinds-are-joined x y
-
-  pub joined-with-a-number : (k x y : ℕ) (n : Number) → k ≡ joinedKind x y → n ≡ joinedNumber a b → ofKind k n ≡ joinedValue (ofKind x a) (ofKind y b)
-  joined-with-a-number k x y n e is = ap₂ ofKind e is ∙ kinds-are-joined x y
 
 -- ---- what is read
 

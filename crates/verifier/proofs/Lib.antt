@@ -1,5 +1,4 @@
 pub mod Answers
-pub mod Blocks
 pub mod Inspecting
 pub mod KindLaws
 pub mod Memory
@@ -9,4 +8,3 @@ pub mod Singles
 pub mod Steps
 pub mod Targets
 pub mod Tests
-pub mod Words

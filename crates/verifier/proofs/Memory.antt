@@ -1,5 +1,4 @@
 -- Scratch memory is answered to be too small if and only if the program has the form and scratch is shorter than the words it needs.
--- Assumes nothing.
 use mathlib.Core.Path.{_≡_, refl, sym, ap, _∙_, subst}
 use mathlib.Core.Bool.{Bool, true, false, cond, not, _&&_, true≢false, and-eq-true-iff}
 use mathlib.Core.Logic.{_↔_}
@@ -18,7 +17,7 @@ use Rattle.analysis.proofs.FormLaws.{orderly-passes}
 use Rattle.analysis.proofs.Paths.{connected-iff, passes-has-form}
 use Rattle.verifier.specs.declared.Answer.{Answer}
 use Rattle.verifier.specs.declared.Answer.the-variants.{Judgement, ScratchTooSmall}
-use Rattle.verifier.specs.Scratch.{words}
+use Rattle.waiting.specs.Layout.{words}
 use Rattle.verifier.specs.Answered.{isAccepted, passesForm, answered}
 
 accepted-is : (f : Finding) → isAccepted f ≡ true → f ≡ Accepted

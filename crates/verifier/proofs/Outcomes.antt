@@ -1,5 +1,4 @@
 -- Outcomes, branch by branch: which refuse, what the arms of a match that are not written out are, and what becomes of values that are read.
--- Assumes nothing.
 use Prim.Native.Nat.{ℕ, _≤_, _<_}
 use mathlib.Core.Path.{_≡_, refl, sym, subst}
 use mathlib.Core.Bool.{Bool, true, false, cond, not, _&&_, _||_}
@@ -30,8 +29,9 @@ use Rattle.analysis.specs.declared.Value.the-variants.{Plain}
 use Rattle.analysis.specs.declared.Effect.{Effect}
 use Rattle.analysis.specs.declared.Effect.the-variants.{Refuse, Keep, Fork, Stop}
 use Rattle.analysis.specs.Effects.{reading, readingBoth, put, role, calculate, arithmetic, load, store, told, fork, exit}
-use Rattle.verifier.specs.declared.value.Held.{Held}
-use Rattle.verifier.specs.Scratch.{ofKind, heldIn, shortened}
+use Rattle.waiting.specs.declared.value.Held.{Held}
+use Rattle.waiting.specs.State.{ofKind, heldIn}
+use Rattle.verifier.specs.Sending.{shortened}
 use Rattle.verifier.specs.Outcome.{reasonOf, effectIn, withoutJumps, unusable, resultKind}
 use Rattle.verifier.proofs.KindLaws.{what-is-read, numbers-are-calculated-with, inOrder, what-64-bits-make, what-is-loaded, what-is-stored, numbers-are-compared, the-verdict-is-a-number}
 

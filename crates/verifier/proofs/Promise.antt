@@ -1,5 +1,4 @@
 -- What the verifier's answer promises, by the theorems about the analysis.
--- Assumes nothing.
 use mathlib.Core.Path.{_≡_, sym, subst}
 use mathlib.Core.Bool.{Bool, true, false, cond, _&&_}
 use mathlib.Core.List.{List}
@@ -12,7 +11,7 @@ use Rattle.analysis.proofs.Theorem.{accepted-safe}
 use Rattle.analysis.proofs.Work.{work-linear}
 use Rattle.verifier.specs.declared.Answer.{Answer}
 use Rattle.verifier.specs.declared.Answer.the-variants.{Judgement, ScratchTooSmall}
-use Rattle.verifier.specs.Scratch.{words}
+use Rattle.waiting.specs.Layout.{words}
 use Rattle.verifier.specs.Answered.{passesForm, answered, Promises}
 
 pub the-answer-promises : (program : List ℕ) (R size : ℕ) (r : Answer) → r ≡ answered program R size → Promises program R r

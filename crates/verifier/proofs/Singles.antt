@@ -1,5 +1,4 @@
 -- Values that are one number: what their words are, what is calculated of two of them, and which way a jump on them goes.
--- Assumes nothing.
 use mathlib.Core.Path.{_≡_, refl, sym, ap, subst, _∙_}
 use mathlib.Core.Logic.{_⊎_, inl, inr}
 use mathlib.Core.Bool.{Bool, true, false, cond}
@@ -33,21 +32,15 @@ use Rattle.analysis.specs.Effects.{isNever, isMixed, reading, readingBoth, put,
 use Rattle.analysis.specs.Judged.{Waiting, Progress, halted, onward, having, withOperand, along, apply, send, andThen, distribute}
 use Rattle.analysis.proofs.ExactEffects.{set-get}
 use Rattle.verifier.specs.declared.Step.{Step}
-use Rattle.verifier.specs.declared.value.Held.{Held}
-use Rattle.verifier.specs.declared.value.Single.{Single}
-use Rattle.verifier.specs.declared.value.Single.the-variants as single
-use Rattle.verifier.specs.declared.value.Singles.{Singles}
-use Rattle.verifier.specs.declared.value.Singles.the-variants as singles
-use Rattle.verifier.specs.Scratch.{ofKind, heldIn, heldAt, factsAt, waitingIn, IsSingle, AreSingle, Sent}
-use Rattle.verifier.proofs.Blocks.{register-in-range}
-
--- ---- the words of one number
-
-pub one-number : (m : List ℕ) (at r : ℕ) → r < 11 → getD m (at + 5 * r) 0 ≡ 2 → getD m (at + 5 * r + 2) 0 ≡ 0
-    → getD m (at + 5 * r + 3) 0 ≡ getD m (at + 5 * r + 1) 0 → getD m (at + 5 * r + 4) 0 ≡ getD m (at + 5 * r + 1) 0
-    → valueOf (factsAt m at) r ≡ Plain (exact (getD m (at + 5 * r + 1) 0))
-unfolding heldIn ofKind heldAt exact just
-one-number m at r l kind mask lo hi = register-in-range m at r l ∙ rw (kind, mask, lo, hi)
+use Rattle.waiting.specs.declared.value.Held.{Held}
+use Rattle.waiting.specs.declared.value.Single.{Single}
+use Rattle.waiting.specs.declared.value.Single.the-variants as single
+use Rattle.waiting.specs.declared.value.Singles.{Singles}
+use Rattle.waiting.specs.declared.value.Singles.the-variants as singles
+use Rattle.waiting.specs.State.{ofKind, heldIn, heldAt, factsAt, IsSingle, AreSingle}
+use Rattle.waiting.specs.Store.{waitingIn}
+use Rattle.verifier.specs.Sending.{Sent}
+use Rattle.waiting.specs.Layout.{stateOf}
 
 pub one-is-told : {r : Single} {u : Value} (x : ℕ) → r ≡ single.One x → IsSingle r u → u ≡ Plain (exact x)
 one-is-told {r} {u} x e h = subst (λ s. IsSingle s u) e h
@@ -142,9 +135,9 @@ module _ (n i work : ℕ) (p : Waiting) (a : Facts) (w : Width) (c : Comparison)
 
 -- the jump's own statement, where the state is that of index i
 pub a-decided-jump-is-sent : (n i work : ℕ) (m m′ : List ℕ) (w : Width) (c : Comparison) (d : ℕ) (s : Operand) (target x y : ℕ) (b : Bool) (r : Step)
-    → (valueOf (factsAt m (56 * i + 1)) d ≡ Plain (exact x)) × (operandOf (factsAt m (56 * i + 1)) s ≡ Plain (exact y)) → b ≡ compare (bits w) c x y
-    → Sent (send n (cond b target (i + 1)) (some (factsAt m (56 * i + 1))) (waitingIn n m) work) n i r m m′ → x < 2 ^ 64 → y < 2 ^ 64
-    → Sent (distribute n i (waitingIn n m) work (apply (factsAt m (56 * i + 1)) (readingBoth (valueOf (factsAt m (56 * i + 1)) d) (operandOf (factsAt m (56 * i + 1)) s)
-    (fork w c d s target (valueOf (factsAt m (56 * i + 1)) d) (operandOf (factsAt m (56 * i + 1)) s))))) n i r m m′
+    → (valueOf (factsAt m (stateOf i)) d ≡ Plain (exact x)) × (operandOf (factsAt m (stateOf i)) s ≡ Plain (exact y)) → b ≡ compare (bits w) c x y
+    → Sent (send n (cond b target (i + 1)) (some (factsAt m (stateOf i))) (waitingIn n m) work) n i r m m′ → x < 2 ^ 64 → y < 2 ^ 64
+    → Sent (distribute n i (waitingIn n m) work (apply (factsAt m (stateOf i)) (readingBoth (valueOf (factsAt m (stateOf i)) d) (operandOf (factsAt m (stateOf i)) s)
+    (fork w c d s target (valueOf (factsAt m (stateOf i)) d) (operandOf (factsAt m (stateOf i)) s))))) n i r m m′
 a-decided-jump-is-sent n i work m m′ w c d s target x y b r known goes sent hx hy =
-    subst (λ p. Sent p n i r m m′) (sym (a-decided-jump n i work (waitingIn n m) (factsAt m (56 * i + 1)) w c d s target x y (known .0) (known .1) hx hy b goes)) sent
+    subst (λ p. Sent p n i r m m′) (sym (a-decided-jump n i work (waitingIn n m) (factsAt m (stateOf i)) w c d s target x y (known .0) (known .1) hx hy b goes)) sent

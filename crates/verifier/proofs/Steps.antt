@@ -1,5 +1,4 @@
 -- The steps of the pass over scratch memory: what is sent, how two steps join to one, and a turn of the loop.
--- Assumes nothing.
 use Prim.Native.Nat.{ℕ, suc, _+_, _-_, _*_, _/_, _≤_, _<_, min}
 use mathlib.Core.Path.{_≡_, refl, sym, ap, _∙_, subst, fun-ext}
 use mathlib.Core.Bool.{Bool, true, false, cond, not, _||_}
@@ -29,10 +28,14 @@ use Rattle.analysis.specs.Form.{instruction}
 use Rattle.analysis.specs.Judged.{Waiting, having, arrive, Flow, refuses, flows, apply, along, Progress, halted, onward, send, andThen, distribute, visit, Walk, conclude, pass, followed}
 use Rattle.verifier.specs.declared.Step.{Step}
 use Rattle.verifier.specs.declared.Step.the-variants.{Halt, More}
-use Rattle.verifier.specs.declared.value.Held.{Held}
-use Rattle.verifier.specs.Scratch.{heldIn, heldAt, factsAt, waitingIn, shortened, Changed, Says, Arrived, Sent, Begun, Followed}
+use Rattle.waiting.specs.declared.value.Held.{Held}
+use Rattle.waiting.specs.State.{heldIn, heldAt, factsAt, Changed}
+use Rattle.waiting.specs.Store.{waitingIn, Arrived, Begun}
+use Rattle.verifier.specs.Sending.{shortened, Says, Sent, Followed}
 use Rattle.verifier.specs.Outcome.{reasonOf, unusable}
-use Rattle.verifier.proofs.Blocks.{a-state-is-kept, a-marked-block-waits, nothing-waits-in-an-unmarked-block, a-changed-register-is-stored, what-was-is-back, what-is-done-is-done}
+use Rattle.waiting.proofs.States.{a-state-is-kept, a-changed-register-is-stored}
+use Rattle.waiting.proofs.Blocks.{a-marked-block-waits, nothing-waits-in-an-unmarked-block, what-was-is-back, what-is-done-is-done}
+use Rattle.waiting.specs.Layout.{valueWords, blockWords, stateOf}
 use Rattle.verifier.proofs.Outcomes.{they-may-not-be-compared, they-are-compared}
 
 -- ---- a state is sent
@@ -67,20 +70,20 @@ nothing-arrives-before p i j a l = rw (ne-eqb i j (λ e. omega arith))
 
 -- f is what is changed further
 pub a-changed-state-is-sent : (f : Facts → Facts) (n i j d work : ℕ) (m sent done m′ : List ℕ) (h old : Held) (v : Value) (r : Step) → i < j
-    → heldIn h ≡ v → (d < 11 → old ≡ heldAt m (56 * i + 1 + 5 * d)) → Changed m sent (56 * i + 1) d h → Changed done m′ (56 * i + 1) d old
-    → Sent (send n j (some (f (factsAt sent (56 * i + 1)))) (waitingIn n sent) work) n i r sent done
-    → Sent (send n j (some (f (having (factsAt m (56 * i + 1)) d v))) (waitingIn n m) work) n i r m m′
+    → heldIn h ≡ v → (d < 11 → old ≡ heldAt m (stateOf i + valueWords * d)) → Changed m sent (stateOf i) d h → Changed done m′ (stateOf i) d old
+    → Sent (send n j (some (f (factsAt sent (stateOf i)))) (waitingIn n sent) work) n i r sent done
+    → Sent (send n j (some (f (having (factsAt m (stateOf i)) d v))) (waitingIn n m) work) n i r m m′
 unfolding send
 a-changed-state-is-sent f n i j d work m sent done m′ h old v r l is was put back s =
     subst (λ x. Sent (send n j (some (f x)) (waitingIn n m) work) n i r m m′)
-    (a-changed-register-is-stored m sent (56 * i + 1) d h put .held ∙ ap (having (factsAt m (56 * i + 1)) d) is)
+    (a-changed-register-is-stored m sent (stateOf i) d h put .held ∙ ap (having (factsAt m (stateOf i)) d) is)
     (record {
       made = record { size = back .size ∙ s .made .size ∙ put .size; says = go (ltb j n) (s .made .says) };
       kept = what-was-is-back n i d m sent done m′ h old was put back (s .kept);
     })
   where
     a : Facts
-    a = f (factsAt sent (56 * i + 1))
+    a = f (factsAt sent (stateOf i))
 
     becomes : (g : Waiting → Waiting) → ((p q : Waiting) (x : ℕ) → p x ≡ q x → g p x ≡ g q x) → ((p : Waiting) → g p i ≡ p i)
         → waitingIn n done ≡ g (waitingIn n sent) → waitingIn n m′ ≡ g (waitingIn n m)
@@ -92,9 +95,9 @@ a-changed-state-is-sent f n i j d work m sent done m′ h old v r l is was put b
     go false e = (e .0, becomes (λ p. p) (λ p q x y. y) (λ p. refl) (e .1))
 
 pub a-state-changed-twice-is-sent : (n i j d e work : ℕ) (m sent done m′ : List ℕ) (h old : Held) (v w : Value) (r : Step) → i < j
-    → heldIn h ≡ v → (d < 11 → old ≡ heldAt m (56 * i + 1 + 5 * d)) → Changed m sent (56 * i + 1) d h → Changed done m′ (56 * i + 1) d old
-    → Sent (send n j (some (having (factsAt sent (56 * i + 1)) e w)) (waitingIn n sent) work) n i r sent done
-    → Sent (send n j (some (having (having (factsAt m (56 * i + 1)) d v) e w)) (waitingIn n m) work) n i r m m′
+    → heldIn h ≡ v → (d < 11 → old ≡ heldAt m (stateOf i + valueWords * d)) → Changed m sent (stateOf i) d h → Changed done m′ (stateOf i) d old
+    → Sent (send n j (some (having (factsAt sent (stateOf i)) e w)) (waitingIn n sent) work) n i r sent done
+    → Sent (send n j (some (having (having (factsAt m (stateOf i)) d v) e w)) (waitingIn n m) work) n i r m m′
 a-state-changed-twice-is-sent n i j d e work m sent done m′ h old v w r =
     a-changed-state-is-sent (λ a. having a e w) n i j d work m sent done m′ h old v r
 
@@ -128,8 +131,8 @@ a-step-with-no-second (halted reason p work) n i r m m′ h = h
 a-step-with-no-second (onward p work) n i r m m′ h = h
 
 pub a-step-keeps-its-state : (x : Progress) (n i : ℕ) (r : Step) (m m′ : List ℕ) → Sent x n i r m m′
-    → factsAt m′ (56 * i + 1) ≡ factsAt m (56 * i + 1)
-a-step-keeps-its-state x n i r m m′ h = a-state-is-kept m m′ (56 * i + 1) (λ k l. h .kept k (omega arith))
+    → factsAt m′ (stateOf i) ≡ factsAt m (stateOf i)
+a-step-keeps-its-state x n i r m m′ h = a-state-is-kept m m′ (stateOf i) (λ k l. h .kept k (omega arith))
 
 -- ---- how much a step does
 
@@ -231,12 +234,12 @@ a-shortened-jump-leads-out-as-well n i R p work a NoInstruction = refl
 -- ---- a jump
 
 module _ (n i work : ℕ) (m : List ℕ) (w : Width) (c : Comparison) (d : ℕ) (s : Operand) (target : ℕ) (u v : Held)
-    (is-u : heldIn u ≡ valueOf (factsAt m (56 * i + 1)) d) (is-v : heldIn v ≡ operandOf (factsAt m (56 * i + 1)) s) where
+    (is-u : heldIn u ≡ valueOf (factsAt m (stateOf i)) d) (is-v : heldIn v ≡ operandOf (factsAt m (stateOf i)) s) where
   abbrev Jumps : Progress
   Jumps =
-      distribute n i (waitingIn n m) work (apply (factsAt m (56 * i + 1))
-      (readingBoth (valueOf (factsAt m (56 * i + 1)) d) (operandOf (factsAt m (56 * i + 1)) s)
-      (fork w c d s target (valueOf (factsAt m (56 * i + 1)) d) (operandOf (factsAt m (56 * i + 1)) s))))
+      distribute n i (waitingIn n m) work (apply (factsAt m (stateOf i))
+      (readingBoth (valueOf (factsAt m (stateOf i)) d) (operandOf (factsAt m (stateOf i)) s)
+      (fork w c d s target (valueOf (factsAt m (stateOf i)) d) (operandOf (factsAt m (stateOf i)) s))))
 
   pub a-jump-on-no-numbers : (code : ℕ) (reason : Reason) → (not (eqb (u .kind) 2) || not (eqb (v .kind) 2)) ≡ true → code ≡ unusable (u .kind) (v .kind)
       → reason ≡ reasonOf code → Sent Jumps n i (Halt reason work) m m
@@ -247,18 +250,18 @@ module _ (n i work : ℕ) (m : List ℕ) (w : Width) (c : Comparison) (d : ℕ) 
 
   module _ (e : (not (eqb (u .kind) 2) || not (eqb (v .kind) 2)) ≡ false) (x : Refined) (is-x : x ≡ told w c false (u .number) (v .number)) where
     both-ways : (y : Refined) → y ≡ told w c true (u .number) (v .number)
-        → Jumps ≡ andThen (send n (i + 1) (along (factsAt m (56 * i + 1)) d s x) (waitingIn n m) work) (send n target (along (factsAt m (56 * i + 1)) d s y))
+        → Jumps ≡ andThen (send n (i + 1) (along (factsAt m (stateOf i)) d s x) (waitingIn n m) work) (send n target (along (factsAt m (stateOf i)) d s y))
     unfolding apply distribute
     both-ways y is-y = rw (sym is-u, sym is-v, sym (they-are-compared u v w c d s target e), sym is-x, sym is-y)
 
     pub a-jump-that-halts : (m′ : List ℕ) (reason : Reason) (done : ℕ)
-        → Sent (send n (i + 1) (along (factsAt m (56 * i + 1)) d s x) (waitingIn n m) work) n i (Halt reason done) m m′ → Sent Jumps n i (Halt reason done) m m′
+        → Sent (send n (i + 1) (along (factsAt m (stateOf i)) d s x) (waitingIn n m) work) n i (Halt reason done) m m′ → Sent Jumps n i (Halt reason done) m m′
     a-jump-that-halts m′ reason done h =
         subst (λ p. Sent p n i (Halt reason done) m m′) (sym (both-ways _ refl)) (a-step-that-halts _ _ n i m m′ reason done h)
 
     pub a-jump-that-goes-on : (y : Refined) (m′ m″ : List ℕ) (done : ℕ) (r : Step) → y ≡ told w c true (u .number) (v .number)
-        → Sent (send n (i + 1) (along (factsAt m (56 * i + 1)) d s x) (waitingIn n m) work) n i (More done) m m′
-        → Sent (send n target (along (factsAt m′ (56 * i + 1)) d s y) (waitingIn n m′) done) n i r m′ m″ → Sent Jumps n i r m m″
+        → Sent (send n (i + 1) (along (factsAt m (stateOf i)) d s x) (waitingIn n m) work) n i (More done) m m′
+        → Sent (send n target (along (factsAt m′ (stateOf i)) d s y) (waitingIn n m′) done) n i r m′ m″ → Sent Jumps n i r m m″
     a-jump-that-goes-on y m′ m″ done r is-y h g =
         subst (λ p. Sent p n i r m m″) (sym (both-ways y is-y))
         (a-step-that-goes-on _ _ n i r m m′ m″ done h
@@ -266,16 +269,16 @@ module _ (n i work : ℕ) (m : List ℕ) (w : Width) (c : Comparison) (d : ℕ) 
 
 -- ---- one index
 
-pub an-index-that-no-path-reaches : (program : List ℕ) (R n i : ℕ) (m : List ℕ) (work : ℕ) → (getD m (56 * i) 0 ≡ 1 → ⊥)
+pub an-index-that-no-path-reaches : (program : List ℕ) (R n i : ℕ) (m : List ℕ) (work : ℕ) → (getD m (blockWords * i) 0 ≡ 1 → ⊥)
     → Sent (visit program R i (waitingIn n m) work (waitingIn n m i)) n i (More work) m m
 unfolding visit
 an-index-that-no-path-reaches program R n i m work ne =
     rw (nothing-waits-in-an-unmarked-block n m i ne) (going-on-changes-nothing (waitingIn n m) n i m work refl)
 
 pub an-index-that-a-path-reaches : (program : List ℕ) (R n i : ℕ) (m m′ : List ℕ) (work : ℕ) (r : Step) (ins : Instruction) (e : Effect)
-    → i < n → n ≡ length program / 8 → getD m (56 * i) 0 ≡ 1 → ins ≡ instruction program i
-    → e ≡ effect R i (factsAt m (56 * i + 1)) (shortened n ins)
-    → Sent (distribute n i (waitingIn n m) (work + 1) (apply (factsAt m (56 * i + 1)) e)) n i r m m′
+    → i < n → n ≡ length program / 8 → getD m (blockWords * i) 0 ≡ 1 → ins ≡ instruction program i
+    → e ≡ effect R i (factsAt m (stateOf i)) (shortened n ins)
+    → Sent (distribute n i (waitingIn n m) (work + 1) (apply (factsAt m (stateOf i)) e)) n i r m m′
     → Sent (visit program R i (waitingIn n m) work (waitingIn n m i)) n i r m m′
 unfolding visit
 an-index-that-a-path-reaches program R n i m m′ work r ins e l size mark is does h =
@@ -286,12 +289,12 @@ an-index-that-a-path-reaches program R n i m m′ work r ins e l size mark is do
     (subst (λ x. Sent (distribute n i (waitingIn n m) (work + 1) (apply a x)) n i r m m′) does h))))
   where
     a : Facts
-    a = factsAt m (56 * i + 1)
+    a = factsAt m (stateOf i)
 
 module _ (program : List ℕ) (R n i : ℕ) (m m′ : List ℕ) (work : ℕ) (r : Step) (ins : Instruction) (off target : ℕ) (l : i < n) (size : n ≡ length program / 8)
-    (mark : getD m (56 * i) 0 ≡ 1) (is : ins ≡ instruction program i) (leads : target ≡ i + 1 + min off n) where
+    (mark : getD m (blockWords * i) 0 ≡ 1) (is : ins ≡ instruction program i) (leads : target ≡ i + 1 + min off n) where
   abbrev a : Facts
-  a = factsAt m (56 * i + 1)
+  a = factsAt m (stateOf i)
 
   pub a-jump-is-reached : (w : Width) (c : Comparison) (d : ℕ) (s : Operand) → ins ≡ Jump w c d s off
       → Sent (distribute n i (waitingIn n m) (work + 1) (apply a (readingBoth (valueOf a d) (operandOf a s) (fork w c d s target (valueOf a d) (operandOf a s))))) n i r m m′

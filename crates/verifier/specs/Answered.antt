@@ -14,7 +14,8 @@ use Rattle.analysis.specs.Judged.{formed, followed, judged}
 use Rattle.analysis.specs.Safe.{Safe}
 use Rattle.verifier.specs.declared.Answer.{Answer}
 use Rattle.verifier.specs.declared.Answer.the-variants.{Judgement, ScratchTooSmall}
-use Rattle.verifier.specs.Scratch.{words, waitingIn}
+use Rattle.waiting.specs.Layout.{words}
+use Rattle.waiting.specs.Store.{waitingIn}
 
 unfoldable pub isAccepted : Finding → Bool
 isAccepted Accepted = true

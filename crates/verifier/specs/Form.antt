@@ -1,5 +1,4 @@
 -- The tests on form on the fields of an instruction, without the instruction itself, and the answer of a test as the analysis has it.
--- Assumes nothing.
 use mathlib.Core.Bool.{Bool, false, cond, _&&_, _||_}
 use mathlib.Core.List.{List, [], _∷_}
 use mathlib.Core.Option.{Option, none, some}

@@ -1,5 +1,4 @@
 -- What is known at an index: of a register there, and of what the instruction does.
--- Assumes nothing.
 use mathlib.Core.Option.{Option, none, some}
 use Prim.Native.Nat.{ℕ}
 use Rattle.machine.specs.declared.instruction.Instruction.{Instruction}

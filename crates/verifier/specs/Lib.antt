@@ -2,5 +2,5 @@ pub mod Answered
 pub mod Form
 pub mod Inspect
 pub mod Outcome
-pub mod Scratch
+pub mod Sending
 pub mod Targets

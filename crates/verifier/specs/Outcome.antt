@@ -1,5 +1,4 @@
 -- What an instruction that is no jump does, in words: which effect an outcome stands for, and the kinds that values must have.
--- Assumes nothing.
 use mathlib.Core.Bool.{cond, _&&_, _||_}
 use Prim.Native.Nat.{ℕ}
 use lib.Dec.{eqb}
@@ -11,7 +10,7 @@ use Rattle.analysis.specs.declared.Effect.{Effect}
 use Rattle.analysis.specs.declared.Effect.the-variants.{Refuse, Put, Keep, Stop}
 use Rattle.analysis.specs.Effects.{Role, copies, converts, adds, subtracts, calculates}
 use Rattle.verifier.specs.declared.effect.Outcome.{Outcome}
-use Rattle.verifier.specs.Scratch.{heldIn}
+use Rattle.waiting.specs.State.{heldIn}
 
 -- ---- outcomes
 

@@ -1,5 +1,4 @@
 -- Where jumps go to, as bits of words: that of index j is bit j % 64 of word j / 64.
--- Assumes nothing.
 use mathlib.Core.Path.{_≡_}
 use mathlib.Core.Bool.{Bool, _||_}
 use mathlib.Core.List.{List}

@@ -1,5 +1,4 @@
 // What an instruction that is no jump does to the state at a place of scratch memory: one register is read at a time, and none is copied.
-// Assumes nothing.
 ghost use mathlib.Core.Path.{_≡_};
 ghost use mathlib.Core.Bool.{cond};
 ghost use Prim.Native.Nat.{ℕ, _+_, _*_, _-_, _^_, _≤_};
@@ -11,15 +10,10 @@ ghost use Rattle.number.specs.Sharpen.{exact};
 ghost use Rattle.machine.specs.Machine as machine;
 ghost use Rattle.analysis.specs.Effects as defined;
 ghost use Rattle.analysis.specs.Values.{valueOf, operandOf};
-ghost use Rattle.verifier.specs.Scratch.{heldIn, factsAt, IsSingle, AreSingle};
+ghost use Rattle.waiting.specs.State.{heldIn, factsAt, IsSingle, AreSingle};
 ghost use Rattle.verifier.specs.Outcome as outcome;
 ghost use Rattle.verifier.specs.Outcome.{effectIn, reasonOf};
-use crate::scratch::register;
-use crate::scratch::single_at;
-use crate::value::Held;
-use crate::value::Single;
-use crate::value::Singles;
-use crate::value::plain;
+ghost use Rattle.waiting.specs.Layout.{stateWords};
 use analysis::Effect;
 use analysis::Value;
 use calculator::operation::alu32;
@@ -32,6 +26,12 @@ use machine::instruction::Operand;
 use machine::instruction::Size;
 use machine::instruction::Width;
 use number::Number;
+use waiting::state::register;
+use waiting::state::single_at;
+use waiting::value::Held;
+use waiting::value::Single;
+use waiting::value::Singles;
+use waiting::value::plain;
 use word::Operation;
 use word::by_name;
 
@@ -43,7 +43,7 @@ pub struct Outcome {
 }
 
 pub fn operand_held(m: &[u64], at: usize, s: Operand) -> Held
-    requires { ⌜ at + 55 ≤ length (now m) ⌝ }
+    requires { ⌜ at + stateWords ≤ length (now m) ⌝ }
     ensures { λ r. ⌜ heldIn r ≡ operandOf (factsAt (now (m .entry)) at) s ⌝ }
 {
     match s {
@@ -196,7 +196,7 @@ fn moved(width: Width, d: u64, y: Held) -> Outcome
 }
 
 fn operand_single(m: &[u64], at: usize, s: Operand) -> Single
-    requires { ⌜ at + 55 ≤ length (now m) ⌝ }
+    requires { ⌜ at + stateWords ≤ length (now m) ⌝ }
     ensures { λ r. ⌜ IsSingle r (operandOf (factsAt (now (m .entry)) at) s) ⌝ }
 {
     match s {
@@ -206,7 +206,7 @@ fn operand_single(m: &[u64], at: usize, s: Operand) -> Single
 }
 
 pub fn singles_at(m: &[u64], at: usize, d: u64, s: Operand) -> Singles
-    requires { ⌜ at + 55 ≤ length (now m) ⌝ }
+    requires { ⌜ at + stateWords ≤ length (now m) ⌝ }
     ensures { λ r. ⌜ AreSingle r (valueOf (factsAt (now (m .entry)) at) d) (operandOf (factsAt (now (m .entry)) at) s) ⌝ }
 {
     match single_at(m, at, d) {
@@ -229,7 +229,7 @@ fn word_of(width: Width, op: Operation, x: u64, y: u64) -> u64
 
 // Of two known numbers nothing but the words is calculated.
 fn arithmetic(m: &[u64], at: usize, width: Width, op: Operation, d: u64, s: Operand) -> Outcome
-    requires { ⌜ at + 55 ≤ length (now m) ⌝ }
+    requires { ⌜ at + stateWords ≤ length (now m) ⌝ }
     ensures { λ r. ⌜ effectIn r ≡ defined.arithmetic (defined.role width op) (machine.bits width) op d (valueOf (factsAt (now (m .entry)) at) d) (operandOf (factsAt (now (m .entry)) at) s) ⌝ }
 {
     match singles_at(m, at, d, s) {
@@ -241,7 +241,7 @@ fn arithmetic(m: &[u64], at: usize, width: Width, op: Operation, d: u64, s: Oper
 }
 
 fn arithmetic_held(m: &[u64], at: usize, width: Width, op: Operation, d: u64, s: Operand) -> Outcome
-    requires { ⌜ at + 55 ≤ length (now m) ⌝ }
+    requires { ⌜ at + stateWords ≤ length (now m) ⌝ }
     ensures { λ r. ⌜ effectIn r ≡ defined.arithmetic (defined.role width op) (machine.bits width) op d (valueOf (factsAt (now (m .entry)) at) d) (operandOf (factsAt (now (m .entry)) at) s) ⌝ }
 {
     let y = operand_held(m, at, s);
@@ -353,7 +353,7 @@ fn exited(x: Held) -> Outcome
 
 // What an instruction does to the state at `at`; a jump counts as none.
 pub fn outcome_of(m: &[u64], at: usize, rlen: u64, ins: Instruction) -> Outcome
-    requires { ⌜ at + 55 ≤ length (now m) ⌝ }
+    requires { ⌜ at + stateWords ≤ length (now m) ⌝ }
     ensures { λ r. ⌜ ((i : ℕ) → effectIn r ≡ defined.effect rlen i (factsAt (now (m .entry)) at) (outcome.withoutJumps ins)) ⌝ }
 {
     match ins {

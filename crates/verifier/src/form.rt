@@ -1,5 +1,4 @@
 // The tests on form of one instruction, and of all of them in their order.
-// Assumes nothing.
 ghost use mathlib.Core.Path.{_≡_};
 ghost use Prim.Native.Nat.{_/_, _≤_, _<_};
 ghost use lib.ListN.{length};

@@ -8,15 +8,16 @@ ghost use Rattle.analysis.specs.Form.{instruction};
 ghost use Rattle.analysis.specs.Values.{valueOf, operandOf};
 ghost use Rattle.verifier.specs.Inspect.{knownOf, deedOf};
 ghost use Rattle.verifier.specs.Outcome.{effectIn};
-ghost use Rattle.verifier.specs.Scratch.{words, heldIn, factsAt, waitingIn, shortened};
+ghost use Rattle.waiting.specs.Layout.{words, stateWords};
+ghost use Rattle.waiting.specs.State.{heldIn, factsAt};
+ghost use Rattle.waiting.specs.Store.{waitingIn};
+ghost use Rattle.verifier.specs.Sending.{shortened};
 use crate::effect::Outcome;
 use crate::effect::operand_held;
 use crate::effect::outcome_of;
 use crate::effect::unusable;
 use crate::pass::target;
-use crate::scratch::register;
 use crate::send::reason_of;
-use crate::value::Held;
 use crate::ways::told_onward;
 use crate::ways::told_there;
 use analysis::Effect;
@@ -27,6 +28,9 @@ use machine::instruction::Instruction;
 use machine::instruction::Operand;
 use machine::instruction::Width;
 use machine::instruction::decode;
+use waiting::BLOCK_WORDS;
+use waiting::state::register;
+use waiting::value::Held;
 use word::Comparison;
 
 pub enum Known {
@@ -70,7 +74,7 @@ fn effect_of_outcome(o: Outcome) -> Effect
 }
 
 fn fork_of(m: &[u64], at: usize, w: Width, c: Comparison, d: u64, s: Operand, target: u64) -> Effect
-    requires { ⌜ at + 55 ≤ length (now m) ⌝ }
+    requires { ⌜ at + stateWords ≤ length (now m) ⌝ }
     ensures { λ r. ⌜ r ≡ defined.readingBoth (valueOf (factsAt (now (m .entry)) at) d) (operandOf (factsAt (now (m .entry)) at) s)
         (defined.fork w c d s target (valueOf (factsAt (now (m .entry)) at) d) (operandOf (factsAt (now (m .entry)) at) s)) ⌝ }
 {
@@ -92,7 +96,7 @@ fn fork_of(m: &[u64], at: usize, w: Width, c: Comparison, d: u64, s: Operand, ta
 
 // What an instruction at index i of n does to the state at `at`.
 fn effect_of(m: &[u64], at: usize, rlen: u64, n: u64, i: u64, ins: Instruction) -> Effect
-    requires { ⌜ (at + 55 ≤ length (now m)) × (i < 4096) × (n ≤ 4096) ⌝ }
+    requires { ⌜ (at + stateWords ≤ length (now m)) × (i < 4096) × (n ≤ 4096) ⌝ }
     ensures { λ r. ⌜ r ≡ defined.effect rlen i (factsAt (now (m .entry)) at) (shortened n ins) ⌝ }
 {
     match ins {
@@ -114,16 +118,16 @@ fn effect_of(m: &[u64], at: usize, rlen: u64, n: u64, i: u64, ins: Instruction) 
 pub fn register_at(scratch: &[u64], n: usize, i: usize, r: u64) -> Known
     ensures { λ k. ⌜ (words n ≤ length (now (scratch .entry)) → k ≡ knownOf (waitingIn n (now (scratch .entry)) i) r) ⌝ }
 {
-    if scratch.len() / 56 < n {
+    if scratch.len() / BLOCK_WORDS < n {
         return Known::Unreached;
     }
     if n <= i {
         return Known::Unreached;
     }
-    if scratch[56 * i] != 1 {
+    if scratch[BLOCK_WORDS * i] != 1 {
         return Known::Unreached;
     }
-    Known::Has(value_of(register(scratch, 56 * i + 1, r)))
+    Known::Has(value_of(register(scratch, BLOCK_WORDS * i + 1, r)))
 }
 
 // What the instruction at index i does to what is known there; a jump out of the program leads to no further than its length.
@@ -136,15 +140,22 @@ pub fn effect_at(program: &[u8], record_len: u64, scratch: &[u64], i: usize) -> 
     if 4096 < n {
         return Deed::Nothing;
     }
-    if scratch.len() / 56 < n {
+    if scratch.len() / BLOCK_WORDS < n {
         return Deed::Nothing;
     }
     if n <= i {
         return Deed::Nothing;
     }
-    if scratch[56 * i] != 1 {
+    if scratch[BLOCK_WORDS * i] != 1 {
         return Deed::Nothing;
     }
     let ins = decode(program, i * 8);
-    Deed::Does(effect_of(scratch, 56 * i + 1, record_len, n as u64, i as u64, ins))
+    Deed::Does(effect_of(
+        scratch,
+        BLOCK_WORDS * i + 1,
+        record_len,
+        n as u64,
+        i as u64,
+        ins,
+    ))
 }

@@ -1,13 +1,11 @@
 // The verifier: the analysis' definition as a routine, in lent memory. On any bytes, any record length and any scratch memory it gives the
-// answer that is defined, and an accepted program is safe. Assumes nothing.
+// answer that is defined, and an accepted program is safe.
 mod effect;
 mod form;
 pub mod inspect;
 mod pass;
 mod paths;
-mod scratch;
 mod send;
-mod value;
 pub mod verify;
 mod ways;
 

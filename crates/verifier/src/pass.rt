@@ -1,14 +1,13 @@
 // The pass that follows the values: each index once, after all that comes there.
-// Assumes nothing.
 ghost use mathlib.Core.Path.{_≡_};
 ghost use Prim.Native.Nat.{_+_, _*_, _/_, _≤_, _<_, min};
 ghost use lib.ListN.{length};
 ghost use Rattle.analysis.specs.Judged as defined;
-ghost use Rattle.verifier.specs.Scratch.{waitingIn, Sent, Followed, Begun};
+ghost use Rattle.waiting.specs.Store.{waitingIn, Begun};
+ghost use Rattle.verifier.specs.Sending.{Sent, Followed};
+ghost use Rattle.waiting.specs.Layout.{blockWords};
 use crate::Step;
 use crate::effect::outcome_of;
-use crate::scratch::clear;
-use crate::scratch::write_start;
 use crate::send::jump;
 use crate::send::proceed;
 use crate::send::send;
@@ -16,6 +15,8 @@ use analysis::Finding;
 use analysis::Judged;
 use machine::instruction::Instruction;
 use machine::instruction::decode;
+use waiting::BLOCK_WORDS;
+use waiting::store::begin;
 
 // A jump by more than the program's length leads out of it, as one by its length does.
 pub fn target(n: u64, i: u64, off: u64) -> u64
@@ -29,11 +30,11 @@ pub fn target(n: u64, i: u64, off: u64) -> u64
 }
 
 fn visit(program: &[u8], n: usize, rlen: u64, m: &mut [u64], i: usize, work: u64) -> Step
-    requires { ⌜ (i < n) × (n ≤ 4096) × (n ≡ length (now program) / 8) × (56 * n ≤ length (now m)) × (work < 1000000) ⌝ }
+    requires { ⌜ (i < n) × (n ≤ 4096) × (n ≡ length (now program) / 8) × (blockWords * n ≤ length (now m)) × (work < 1000000) ⌝ }
     ensures { λ r. ⌜ Sent (defined.visit (now (program .entry)) rlen i (waitingIn n (now (m .entry))) work (waitingIn n (now (m .entry)) i))
         n i r (now (m .entry)) (now (m .exit)) ⌝ }
 {
-    let place = 56 * i;
+    let place = BLOCK_WORDS * i;
     if m[place] != 1 {
         return Step::More { work };
     }
@@ -64,18 +65,8 @@ fn visit(program: &[u8], n: usize, rlen: u64, m: &mut [u64], i: usize, work: u64
     }
 }
 
-// The start waits at index 0, and nothing elsewhere.
-fn begin(m: &mut [u64], n: usize)
-    requires { ⌜ (0 < n) × (56 * n ≤ length (now m)) ⌝ }
-    ensures { λ r. ⌜ Begun n (now (m .entry)) (now (m .exit)) ⌝ }
-{
-    clear(m, n);
-    write_start(m, 1);
-    m[0] = 1;
-}
-
 pub fn follow(program: &[u8], n: usize, rlen: u64, m: &mut [u64]) -> Judged
-    requires { ⌜ (0 < n) × (n ≤ 4096) × (n ≡ length (now program) / 8) × (56 * n ≤ length (now m)) ⌝ }
+    requires { ⌜ (0 < n) × (n ≤ 4096) × (n ≡ length (now program) / 8) × (blockWords * n ≤ length (now m)) ⌝ }
     ensures { λ r. ⌜ Followed (now (program .entry)) rlen n r (now (m .entry)) (now (m .exit)) ⌝ }
 {
     begin(m, n);

@@ -8,22 +8,16 @@ ghost use lib.ListN.{length, getD};
 ghost use Rattle.analysis.specs.Values.{valueOf, operandOf, joinedValue, joinedFacts};
 ghost use Rattle.analysis.specs.Effects as effects;
 ghost use Rattle.analysis.specs.Judged as defined;
-ghost use Rattle.verifier.specs.Scratch.{heldIn, heldAt, factsAt, waitingIn, Holds, Stored, Arrived, Sent};
+ghost use Rattle.waiting.specs.State.{heldIn, heldAt, factsAt, Holds, Stored};
+ghost use Rattle.waiting.specs.Store.{waitingIn, Arrived};
+ghost use Rattle.verifier.specs.Sending.{Sent};
 ghost use Rattle.verifier.specs.Outcome.{reasonOf, effectIn};
+ghost use Rattle.waiting.specs.Layout.{blockWords, stateOf};
 use crate::Step;
 use crate::effect::Outcome;
 use crate::effect::operand_held;
 use crate::effect::singles_at;
 use crate::effect::unusable;
-use crate::scratch::copy_state;
-use crate::scratch::held_at;
-use crate::scratch::put_register;
-use crate::scratch::register;
-use crate::scratch::write_held;
-use crate::value::Held;
-use crate::value::Singles;
-use crate::value::join_held;
-use crate::value::plain;
 use crate::ways::is_taken;
 use crate::ways::told_onward;
 use crate::ways::told_there;
@@ -33,45 +27,19 @@ use machine::instruction::Operand;
 use machine::instruction::Width;
 use number::Number;
 use number::Refined;
+use waiting::BLOCK_WORDS;
+use waiting::state::put_register;
+use waiting::state::register;
+use waiting::store::arrive;
+use waiting::store::arrive_with;
+use waiting::value::Held;
+use waiting::value::Singles;
+use waiting::value::plain;
 use word::Comparison;
 
-fn join_register(m: &mut [u64], from: usize, to: usize)
-    requires { ⌜ (from + 5 ≤ length (now m)) × (to + 5 ≤ length (now m)) ⌝ }
-    ensures { λ r. ⌜ Holds (now (m .entry)) (now (m .exit)) to (joinedValue (heldIn (heldAt (now (m .entry)) to)) (heldIn (heldAt (now (m .entry)) from))) ⌝ }
-{
-    let old = held_at(m, to);
-    let new = held_at(m, from);
-    let both = join_held(old, new);
-    write_held(m, to, both);
-}
-
-fn join_state(m: &mut [u64], from: usize, to: usize)
-    requires { ⌜ (from + 55 ≤ to) × (to + 55 ≤ length (now m)) ⌝ }
-    ensures { λ r. ⌜ Stored (now (m .entry)) (now (m .exit)) to (joinedFacts (factsAt (now (m .entry)) to) (factsAt (now (m .entry)) from)) ⌝ }
-{
-    let mut r = 0;
-    while r < 11 {
-        join_register(m, from + 5 * r, to + 5 * r);
-        r += 1;
-    }
-}
-
-fn arrive(m: &mut [u64], n: usize, i: usize, j: usize)
-    requires { ⌜ (i < j) × (j < n) × (56 * n ≤ length (now m)) ⌝ }
-    ensures { λ r. ⌜ Arrived n i (now (m .entry)) (now (m .exit)) j (factsAt (now (m .entry)) (56 * i + 1)) ⌝ }
-{
-    let place = 56 * j;
-    if m[place] == 1 {
-        join_state(m, 56 * i + 1, place + 1);
-        return;
-    }
-    copy_state(m, 56 * i + 1, place + 1);
-    m[place] = 1;
-}
-
 pub fn send(m: &mut [u64], n: usize, i: usize, j: u64, work: u64) -> Step
-    requires { ⌜ (i < j) × (56 * n ≤ length (now m)) × (work < 1048576) ⌝ }
-    ensures { λ r. ⌜ Sent (defined.send n j (some (factsAt (now (m .entry)) (56 * i + 1))) (waitingIn n (now (m .entry))) work) n i r (now (m .entry)) (now (m .exit)) ⌝ }
+    requires { ⌜ (i < j) × (blockWords * n ≤ length (now m)) × (work < 1048576) ⌝ }
+    ensures { λ r. ⌜ Sent (defined.send n j (some (factsAt (now (m .entry)) (stateOf i))) (waitingIn n (now (m .entry))) work) n i r (now (m .entry)) (now (m .exit)) ⌝ }
 {
     if n as u64 <= j {
         return Step::Halt {
@@ -85,10 +53,10 @@ pub fn send(m: &mut [u64], n: usize, i: usize, j: u64, work: u64) -> Step
 
 // With h in register d.
 fn send_with(m: &mut [u64], n: usize, i: usize, j: u64, d: u64, h: Held, work: u64) -> Step
-    requires { ⌜ (i < n) × (i < j) × (56 * n ≤ length (now m)) × (work < 1048576) ⌝ }
-    ensures { λ r. ⌜ Sent (defined.send n j (some (defined.having (factsAt (now (m .entry)) (56 * i + 1)) d (heldIn h))) (waitingIn n (now (m .entry))) work) n i r (now (m .entry)) (now (m .exit)) ⌝ }
+    requires { ⌜ (i < n) × (i < j) × (blockWords * n ≤ length (now m)) × (work < 1048576) ⌝ }
+    ensures { λ r. ⌜ Sent (defined.send n j (some (defined.having (factsAt (now (m .entry)) (stateOf i)) d (heldIn h))) (waitingIn n (now (m .entry))) work) n i r (now (m .entry)) (now (m .exit)) ⌝ }
 {
-    let at = 56 * i + 1;
+    let at = BLOCK_WORDS * i + 1;
     let old = register(m, at, d);
     put_register(m, at, d, h);
     let step = send(m, n, i, j, work);
@@ -108,13 +76,13 @@ fn send_with_both(
     y: Number,
     work: u64,
 ) -> Step
-    requires { ⌜ (i < n) × (i < j) × (56 * n ≤ length (now m)) × (work < 1048576) ⌝ }
-    ensures { λ r. ⌜ Sent (defined.send n j (some (defined.withOperand (defined.having (factsAt (now (m .entry)) (56 * i + 1)) d (Value.Plain x)) s (Value.Plain y))) (waitingIn n (now (m .entry))) work) n i r (now (m .entry)) (now (m .exit)) ⌝ }
+    requires { ⌜ (i < n) × (i < j) × (blockWords * n ≤ length (now m)) × (work < 1048576) ⌝ }
+    ensures { λ r. ⌜ Sent (defined.send n j (some (defined.withOperand (defined.having (factsAt (now (m .entry)) (stateOf i)) d (Value.Plain x)) s (Value.Plain y))) (waitingIn n (now (m .entry))) work) n i r (now (m .entry)) (now (m .exit)) ⌝ }
 {
     match s {
         Operand::Immediate(_) => send_with(m, n, i, j, d, plain(x), work),
         Operand::Register(r) => {
-            let at = 56 * i + 1;
+            let at = BLOCK_WORDS * i + 1;
             let old = register(m, at, d);
             put_register(m, at, d, plain(x));
             let step = send_with(m, n, i, j, r, plain(y), work);
@@ -135,8 +103,8 @@ fn send_along(
     way: Refined,
     work: u64,
 ) -> Step
-    requires { ⌜ (i < n) × (i < j) × (56 * n ≤ length (now m)) × (work < 1048576) ⌝ }
-    ensures { λ r. ⌜ Sent (defined.send n j (defined.along (factsAt (now (m .entry)) (56 * i + 1)) d s way) (waitingIn n (now (m .entry))) work) n i r (now (m .entry)) (now (m .exit)) ⌝ }
+    requires { ⌜ (i < n) × (i < j) × (blockWords * n ≤ length (now m)) × (work < 1048576) ⌝ }
+    ensures { λ r. ⌜ Sent (defined.send n j (defined.along (factsAt (now (m .entry)) (stateOf i)) d s way) (waitingIn n (now (m .entry))) work) n i r (now (m .entry)) (now (m .exit)) ⌝ }
 {
     match way {
         Refined::Excluded => Step::More { work },
@@ -168,13 +136,13 @@ fn fork(
     target: u64,
     work: u64,
 ) -> Step
-    requires { ⌜ (i < n) × (i < target) × (n ≤ 4096) × (56 * n ≤ length (now m)) × (work < 1048000) ⌝ }
-    ensures { λ r. ⌜ Sent (defined.distribute n i (waitingIn n (now (m .entry))) work (defined.apply (factsAt (now (m .entry)) (56 * i + 1))
-        (effects.readingBoth (valueOf (factsAt (now (m .entry)) (56 * i + 1)) d) (operandOf (factsAt (now (m .entry)) (56 * i + 1)) s)
-        (effects.fork w c d s target (valueOf (factsAt (now (m .entry)) (56 * i + 1)) d) (operandOf (factsAt (now (m .entry)) (56 * i + 1)) s)))))
+    requires { ⌜ (i < n) × (i < target) × (n ≤ 4096) × (blockWords * n ≤ length (now m)) × (work < 1048000) ⌝ }
+    ensures { λ r. ⌜ Sent (defined.distribute n i (waitingIn n (now (m .entry))) work (defined.apply (factsAt (now (m .entry)) (stateOf i))
+        (effects.readingBoth (valueOf (factsAt (now (m .entry)) (stateOf i)) d) (operandOf (factsAt (now (m .entry)) (stateOf i)) s)
+        (effects.fork w c d s target (valueOf (factsAt (now (m .entry)) (stateOf i)) d) (operandOf (factsAt (now (m .entry)) (stateOf i)) s)))))
         n i r (now (m .entry)) (now (m .exit)) ⌝ }
 {
-    let at = 56 * i + 1;
+    let at = BLOCK_WORDS * i + 1;
     let x = register(m, at, d);
     let y = operand_held(m, at, s);
     if (x.kind != 2) | (y.kind != 2) {
@@ -196,8 +164,8 @@ fn fork(
 
 // The state goes on unchanged: to the target, or to the next index.
 fn turn(m: &mut [u64], n: usize, i: usize, taken: bool, target: u64, work: u64) -> Step
-    requires { ⌜ (i < target) × (i < 4096) × (56 * n ≤ length (now m)) × (work < 1048576) ⌝ }
-    ensures { λ r. ⌜ Sent (defined.send n (cond taken target (i + 1)) (some (factsAt (now (m .entry)) (56 * i + 1))) (waitingIn n (now (m .entry))) work) n i r (now (m .entry)) (now (m .exit)) ⌝ }
+    requires { ⌜ (i < target) × (i < 4096) × (blockWords * n ≤ length (now m)) × (work < 1048576) ⌝ }
+    ensures { λ r. ⌜ Sent (defined.send n (cond taken target (i + 1)) (some (factsAt (now (m .entry)) (stateOf i))) (waitingIn n (now (m .entry))) work) n i r (now (m .entry)) (now (m .exit)) ⌝ }
 {
     if taken {
         return send(m, n, i, target, work);
@@ -217,13 +185,13 @@ pub fn jump(
     target: u64,
     work: u64,
 ) -> Step
-    requires { ⌜ (i < n) × (i < target) × (n ≤ 4096) × (56 * n ≤ length (now m)) × (work < 1048000) ⌝ }
-    ensures { λ r. ⌜ Sent (defined.distribute n i (waitingIn n (now (m .entry))) work (defined.apply (factsAt (now (m .entry)) (56 * i + 1))
-        (effects.readingBoth (valueOf (factsAt (now (m .entry)) (56 * i + 1)) d) (operandOf (factsAt (now (m .entry)) (56 * i + 1)) s)
-        (effects.fork w c d s target (valueOf (factsAt (now (m .entry)) (56 * i + 1)) d) (operandOf (factsAt (now (m .entry)) (56 * i + 1)) s)))))
+    requires { ⌜ (i < n) × (i < target) × (n ≤ 4096) × (blockWords * n ≤ length (now m)) × (work < 1048000) ⌝ }
+    ensures { λ r. ⌜ Sent (defined.distribute n i (waitingIn n (now (m .entry))) work (defined.apply (factsAt (now (m .entry)) (stateOf i))
+        (effects.readingBoth (valueOf (factsAt (now (m .entry)) (stateOf i)) d) (operandOf (factsAt (now (m .entry)) (stateOf i)) s)
+        (effects.fork w c d s target (valueOf (factsAt (now (m .entry)) (stateOf i)) d) (operandOf (factsAt (now (m .entry)) (stateOf i)) s)))))
         n i r (now (m .entry)) (now (m .exit)) ⌝ }
 {
-    match singles_at(m, 56 * i + 1, d, s) {
+    match singles_at(m, BLOCK_WORDS * i + 1, d, s) {
         Singles::Both { first, second } => {
             turn(m, n, i, is_taken(w, c, first, second), target, work)
         }
@@ -231,24 +199,12 @@ pub fn jump(
     }
 }
 
-// The state with h in register d comes to the next index, where nothing waits: it is copied, and changed there.
-fn arrive_with(m: &mut [u64], n: usize, i: usize, d: u64, h: Held)
-    requires { ⌜ (i + 1 < n) × (56 * n ≤ length (now m)) ⌝ }
-    requires { ⌜ (getD (now m) (56 * (i + 1)) 0 ≡ 1 → ⊥) ⌝ }
-    ensures { λ r. ⌜ Arrived n i (now (m .entry)) (now (m .exit)) (i + 1) (defined.having (factsAt (now (m .entry)) (56 * i + 1)) d (heldIn h)) ⌝ }
-{
-    let place = 56 * (i + 1);
-    copy_state(m, 56 * i + 1, place + 1);
-    put_register(m, place + 1, d, h);
-    m[place] = 1;
-}
-
 fn put_next(m: &mut [u64], n: usize, i: usize, d: u64, h: Held, work: u64) -> Step
-    requires { ⌜ (i < n) × (n ≤ 4096) × (56 * n ≤ length (now m)) × (work < 1048000) ⌝ }
-    ensures { λ r. ⌜ Sent (defined.send n (i + 1) (some (defined.having (factsAt (now (m .entry)) (56 * i + 1)) d (heldIn h))) (waitingIn n (now (m .entry))) work) n i r (now (m .entry)) (now (m .exit)) ⌝ }
+    requires { ⌜ (i < n) × (n ≤ 4096) × (blockWords * n ≤ length (now m)) × (work < 1048000) ⌝ }
+    ensures { λ r. ⌜ Sent (defined.send n (i + 1) (some (defined.having (factsAt (now (m .entry)) (stateOf i)) d (heldIn h))) (waitingIn n (now (m .entry))) work) n i r (now (m .entry)) (now (m .exit)) ⌝ }
 {
     if i + 1 < n {
-        let place = 56 * (i + 1);
+        let place = BLOCK_WORDS * (i + 1);
         if m[place] != 1 {
             arrive_with(m, n, i, d, h);
             return Step::More { work: work + 11 };
@@ -259,9 +215,9 @@ fn put_next(m: &mut [u64], n: usize, i: usize, d: u64, h: Held, work: u64) -> St
 
 // An outcome at index i.
 pub fn proceed(m: &mut [u64], n: usize, i: usize, o: Outcome, work: u64) -> Step
-    requires { ⌜ (i < n) × (n ≤ 4096) × (56 * n ≤ length (now m)) × (work < 1048000) ⌝ }
+    requires { ⌜ (i < n) × (n ≤ 4096) × (blockWords * n ≤ length (now m)) × (work < 1048000) ⌝ }
     ensures { λ r. ⌜ Sent (defined.distribute n i (waitingIn n (now (m .entry))) work
-        (defined.apply (factsAt (now (m .entry)) (56 * i + 1)) (effectIn o))) n i r (now (m .entry)) (now (m .exit)) ⌝ }
+        (defined.apply (factsAt (now (m .entry)) (stateOf i)) (effectIn o))) n i r (now (m .entry)) (now (m .exit)) ⌝ }
 {
     if o.code == 0 {
         let h = o.held;

@@ -1,5 +1,4 @@
 // The verifier's answer on any program, any record length and any scratch memory.
-// Assumes nothing.
 ghost use mathlib.Core.Path.{_≡_};
 ghost use mathlib.Core.Bool.{false};
 ghost use Prim.Native.Nat.{_/_, _≤_};
@@ -15,6 +14,7 @@ use crate::paths::connected;
 use analysis::Finding;
 use analysis::Judged;
 use analysis::Reason;
+use waiting::BLOCK_WORDS;
 
 fn bad_program(length: usize) -> bool
     ensures { λ r. ⌜ r ≡ machine.badProgram length ⌝ }
@@ -43,9 +43,9 @@ fn annotate_orderly(program: &[u8], n: usize, record_len: u64, scratch: &mut [u6
             work: n as u64 + (place + 1),
         }),
         Finding::Accepted => {
-            if scratch.len() < 56 * n {
+            if scratch.len() < BLOCK_WORDS * n {
                 return Answer::ScratchTooSmall {
-                    words: 56 * n as u64,
+                    words: (BLOCK_WORDS as u64) * n as u64,
                 };
             }
             Answer::Judgement(follow(program, n, record_len, scratch))

@@ -1,5 +1,4 @@
 // Which way a jump goes, and what either way tells of its operands, by the width that is compared.
-// Assumes nothing.
 ghost use mathlib.Core.Path.{_≡_};
 ghost use mathlib.Core.Bool.{true, false};
 ghost use Rattle.word.specs.Word.{compare};

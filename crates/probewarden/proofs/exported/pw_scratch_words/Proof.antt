@@ -1,7 +1,7 @@
 -- `pw_scratch_words`: the formula, or none.
 -- Assumes nothing.
 use borrow.Author.Tests.{le-leb, lt-leb}
-use Rattle.verifier.specs.Scratch.{words}
+use Rattle.waiting.specs.Layout.{words}
 use Rattle.probewarden.specs.Exported.{enough}
 use borrow.Author.Needs.{needs}
 use Rattle.probewarden.proofs.exported.pw_scratch_words.Statement.{statement}

@@ -1,5 +1,4 @@
 -- `arithmetic`: two known numbers are calculated with as words, others as what is held.
--- Assumes nothing.
 use Rattle.verifier.proofs.Singles.{both-are-told, what-words-make}
 use borrow.Author.Needs.{needs}
 use Rattle.verifier.proofs.effect.arithmetic.Statement.{statement}

@@ -1,5 +1,4 @@
 -- `arithmetic_held`: both operands are read; MOV reads one.
--- Assumes nothing.
 use mathlib.Core.Path.{sym}
 use borrow.Author.Needs.{needs}
 use Rattle.verifier.proofs.Outcomes.{no-move}

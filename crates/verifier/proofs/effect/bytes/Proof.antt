@@ -1,5 +1,4 @@
 -- `bytes`: a size has as many bytes as are defined.
--- Assumes nothing.
 use borrow.Author.Needs.{needs}
 use Rattle.machine.specs.Machine.{bytes}
 use Rattle.verifier.proofs.effect.bytes.Statement.{statement}

@@ -1,5 +1,4 @@
 -- `calculated`: either width.
--- Assumes nothing.
 use mathlib.Core.Path.{sym, _∙_}
 use borrow.Author.Needs.{needs}
 use Rattle.machine.specs.Machine.{bits}

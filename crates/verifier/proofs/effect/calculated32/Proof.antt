@@ -1,5 +1,4 @@
 -- `calculated32`: numbers are calculated with.
--- Assumes nothing.
 use mathlib.Core.Path.{_∙_}
 use borrow.Author.Needs.{needs}
 use Rattle.verifier.proofs.Outcomes.{both-are-numbers, one-is-no-number}

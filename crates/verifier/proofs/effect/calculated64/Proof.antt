@@ -1,8 +1,7 @@
 -- `calculated64`: a result is put, of the kind that the kinds of the operands give.
--- Assumes nothing.
 use mathlib.Core.Path.{_∙_}
 use borrow.Author.Needs.{needs}
-use Rattle.verifier.specs.Scratch.{heldIn}
+use Rattle.waiting.specs.State.{heldIn}
 use Rattle.verifier.proofs.Outcomes.{no-result, a-result, in-order, the-other-way}
 use Rattle.verifier.proofs.effect.calculated64.Statement.{statement}
 use Rattle.verifier.proofs.effect.calculated64.Tie as tie

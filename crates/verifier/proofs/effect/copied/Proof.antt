@@ -1,5 +1,4 @@
 -- `copied`: what may be read is put.
--- Assumes nothing.
 use mathlib.Core.Path.{_∙_}
 use borrow.Author.Needs.{needs}
 use Rattle.verifier.proofs.Outcomes.{it-may-not-be-read, it-may-be-read}

@@ -1,5 +1,4 @@
 -- `exited`: the verdict is a number.
--- Assumes nothing.
 use mathlib.Core.Path.{_∙_}
 use borrow.Author.Needs.{needs}
 use Rattle.verifier.specs.Outcome.{effectIn}

@@ -1,5 +1,4 @@
 -- `inside`: the sum of address and offset fits.
--- Assumes nothing.
 use mathlib.Core.Path.{sym}
 use borrow.Author.Needs.{needs}
 use Rattle.verifier.proofs.effect.inside.Statement.{statement}

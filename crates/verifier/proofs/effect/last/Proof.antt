@@ -1,5 +1,4 @@
 -- `last`: the greatest number of as many bytes.
--- Assumes nothing.
 use borrow.Author.Needs.{needs}
 use Rattle.machine.specs.Machine.{bytes}
 use Rattle.verifier.proofs.effect.last.Statement.{statement}

@@ -1,5 +1,4 @@
 -- `limit`: kind 3 is the record.
--- Assumes nothing.
 use borrow.Author.Tests.{ne-eqb}
 use Rattle.verifier.proofs.effect.limit.Statement.{statement}
 use Rattle.verifier.proofs.effect.limit.Tie as tie

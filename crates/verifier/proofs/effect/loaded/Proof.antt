@@ -1,5 +1,4 @@
 -- `loaded`: an address is read from within its region.
--- Assumes nothing.
 use mathlib.Core.Path.{sym, _∙_}
 use borrow.Author.Needs.{needs}
 use Rattle.number.specs.Sharpen.{loaded}

@@ -1,5 +1,4 @@
 -- `moved`: 64 bits are copied, and of 32 there must be a number.
--- Assumes nothing.
 use mathlib.Core.Path.{sym, _∙_}
 use borrow.Author.Needs.{needs}
 use Rattle.machine.specs.Machine.{bits}

@@ -1,5 +1,4 @@
 -- `moved_kind`: each role is an equation of the definition.
--- Assumes nothing.
 use borrow.Author.Needs.{needs}
 use borrow.Author.Tests.{ne-eqb}
 use Rattle.analysis.specs.Effects.{role}

@@ -1,5 +1,4 @@
 -- `operand_held`: an immediate is a number, and a register is read.
--- Assumes nothing.
 use borrow.Author.Needs.{needs}
 use Rattle.analysis.specs.Values.{operandOf}
 use Rattle.verifier.proofs.effect.operand_held.Statement.{statement}

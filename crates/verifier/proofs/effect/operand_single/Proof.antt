@@ -1,5 +1,4 @@
 -- `operand_single`: imm is one number.
--- Assumes nothing.
 use mathlib.Core.Path.{refl}
 use Rattle.analysis.specs.Values.{operandOf}
 use borrow.Author.Needs.{needs}

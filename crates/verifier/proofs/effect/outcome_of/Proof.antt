@@ -1,5 +1,4 @@
 -- `outcome_of`: each instruction is an equation of the definition.
--- Assumes nothing.
 use mathlib.Core.Path.{sym}
 use borrow.Author.Needs.{needs}
 use Rattle.analysis.specs.Effects.{effect}

@@ -1,5 +1,4 @@
 -- `refuse`: a code from 3 on is a reason.
--- Assumes nothing.
 use borrow.Author.Needs.{needs}
 use Rattle.verifier.proofs.Outcomes.{a-reason-refuses}
 use Rattle.verifier.proofs.effect.refuse.Statement.{statement}

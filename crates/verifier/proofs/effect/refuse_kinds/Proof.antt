@@ -1,5 +1,4 @@
 -- `refuse_kinds`: the reason is one of two.
--- Assumes nothing.
 use mathlib.Core.Path.{ap, _∙_}
 use borrow.Author.Needs.{needs}
 use Rattle.analysis.specs.declared.Effect.the-variants.{Refuse}

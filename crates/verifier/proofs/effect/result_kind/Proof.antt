@@ -1,5 +1,4 @@
 -- `result_kind`: the tests are those of the definition.
--- Assumes nothing.
 use borrow.Author.Needs.{needs}
 use Rattle.verifier.specs.Outcome.{resultKind}
 use Rattle.verifier.proofs.effect.result_kind.Statement.{statement}

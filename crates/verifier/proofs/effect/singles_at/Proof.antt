@@ -1,5 +1,4 @@
 -- `singles_at`: both are one number, or nothing is said.
--- Assumes nothing.
 use Rattle.verifier.proofs.Singles.{one-is-told}
 use borrow.Author.Needs.{needs}
 use Rattle.verifier.proofs.effect.singles_at.Statement.{statement}

@@ -1,5 +1,4 @@
 -- `stored`: a number is stored within the stack.
--- Assumes nothing.
 use mathlib.Core.Path.{sym, _∙_}
 use borrow.Author.Needs.{needs}
 use Rattle.verifier.specs.Outcome.{reasonOf, effectIn}

@@ -1,5 +1,4 @@
 -- `unusable`: unset comes before address.
--- Assumes nothing.
 use Rattle.verifier.specs.Outcome.{unusable}
 use Rattle.verifier.proofs.effect.unusable.Statement.{statement}
 use Rattle.verifier.proofs.effect.unusable.Tie as tie

@@ -1,5 +1,4 @@
 -- `word_of`: the function of the width.
--- Assumes nothing.
 use Rattle.machine.specs.Machine.{bits}
 use borrow.Author.Needs.{needs}
 use Rattle.verifier.proofs.effect.word_of.Statement.{statement}

@@ -1,5 +1,4 @@
 -- `arithmetic`: the tests in the order of the definition.
--- Assumes nothing.
 use mathlib.Core.Path.{sym}
 use borrow.Author.Tests.{eq-eqb, ne-eqb}
 use borrow.Author.Needs.{needs}

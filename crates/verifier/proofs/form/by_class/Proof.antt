@@ -1,5 +1,4 @@
 -- `by_class`: the tests in the order of the definition.
--- Assumes nothing.
 use borrow.Author.Tests.{ne-eqb}
 use borrow.Author.Needs.{needs}
 use Rattle.verifier.specs.Form.{told, classTests}

@@ -1,5 +1,4 @@
 -- `check`: the tests from index i on give what all of them do.
--- Assumes nothing.
 use Prim.Native.Nat.{_-_, _/_, _≤_}
 use mathlib.Core.Path.{_≡_}
 use native.Mathlib.Nat.{sub-zero}

@@ -1,5 +1,4 @@
 -- `coded`: what does not hold is no instruction.
--- Assumes nothing.
 use Rattle.verifier.specs.Form.{told, coded}
 use Rattle.verifier.proofs.form.coded.Statement.{statement}
 use Rattle.verifier.proofs.form.coded.Tie as tie

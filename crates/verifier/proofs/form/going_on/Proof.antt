@@ -1,5 +1,4 @@
 -- `going_on`: the test of an instruction that goes on.
--- Assumes nothing.
 use borrow.Author.Tests.{eq-eqb, ne-eqb}
 use borrow.Author.Needs.{needs}
 use Rattle.verifier.specs.Form.{told}

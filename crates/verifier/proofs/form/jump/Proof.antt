@@ -1,5 +1,4 @@
 -- `jump`: the two opcodes that are told whole exclude each other, and so may be tested in either order.
--- Assumes nothing.
 use mathlib.Core.Path.{sym}
 use borrow.Author.Tests.{ne-eqb}
 use borrow.Author.Needs.{needs}

@@ -1,5 +1,4 @@
 -- `jumping`: the tests of a jump.
--- Assumes nothing.
 use borrow.Author.Tests.{le-leb, lt-leb}
 use borrow.Author.Needs.{needs}
 use Rattle.verifier.specs.Form.{told}

@@ -1,5 +1,4 @@
 -- `test_at`: the fields at an index are those of the instruction there.
--- Assumes nothing.
 use mathlib.Core.Path.{sym}
 use Rattle.verifier.proofs.Tests.{the-tests-at-an-index}
 use borrow.Author.Needs.{needs}

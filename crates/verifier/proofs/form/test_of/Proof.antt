@@ -1,5 +1,4 @@
 -- `test_of`: no register above 10, and the tests of the class.
--- Assumes nothing.
 use borrow.Author.Tests.{le-leb, lt-leb}
 use borrow.Author.Needs.{needs}
 use Rattle.verifier.specs.Form.{told, coded, fieldTests}

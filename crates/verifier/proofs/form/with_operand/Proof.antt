@@ -1,5 +1,4 @@
 -- `with_operand`: either operand leaves one field unused.
--- Assumes nothing.
 use borrow.Author.Tests.{eq-eqb, ne-eqb}
 use borrow.Author.Needs.{needs}
 use Rattle.verifier.specs.Form.{withOperandTests}

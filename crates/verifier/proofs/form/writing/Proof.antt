@@ -1,5 +1,4 @@
 -- `writing`: the tests of an instruction that writes a register.
--- Assumes nothing.
 use borrow.Author.Tests.{eq-eqb, ne-eqb}
 use borrow.Author.Needs.{needs}
 use Rattle.verifier.specs.Form.{told}

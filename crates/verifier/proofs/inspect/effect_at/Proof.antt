@@ -1,8 +1,7 @@
 -- `effect_at`: scratch memory that is too short tells nothing; otherwise the mark says whether a path comes.
--- Assumes nothing.
 use native.Mathlib.Omega.{arith}
 use borrow.Author.Needs.{needs}
-use Rattle.verifier.specs.Scratch.{words}
+use Rattle.waiting.specs.Layout.{words}
 use Rattle.verifier.proofs.Inspecting.{outside-nothing-is-done, unmarked-nothing-is-done, marked-an-effect-is-done}
 use Rattle.verifier.proofs.inspect.effect_at.Statement.{statement}
 use Rattle.verifier.proofs.inspect.effect_at.Tie as tie

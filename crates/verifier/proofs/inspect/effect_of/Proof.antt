@@ -1,9 +1,8 @@
 -- `effect_of`: a jump is shortened, and any other instruction has an outcome.
--- Assumes nothing.
 use mathlib.Core.Path.{sym, ap, _∙_}
 use borrow.Author.Needs.{needs}
 use Rattle.analysis.specs.Effects.{effect}
-use Rattle.verifier.specs.Scratch.{shortened}
+use Rattle.verifier.specs.Sending.{shortened}
 use Rattle.verifier.proofs.Outcomes.{no-jump}
 use Rattle.verifier.proofs.inspect.effect_of.Statement.{statement}
 use Rattle.verifier.proofs.inspect.effect_of.Tie as tie

@@ -1,5 +1,4 @@
 -- `effect_of_outcome`: each code is a test of the definition.
--- Assumes nothing.
 use borrow.Author.Needs.{needs}
 use borrow.Author.Tests.{ne-eqb}
 use Rattle.verifier.specs.Outcome.{effectIn}

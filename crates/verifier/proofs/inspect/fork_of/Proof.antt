@@ -1,5 +1,4 @@
 -- `fork_of`: numbers are compared.
--- Assumes nothing.
 use mathlib.Core.Path.{sym}
 use borrow.Author.Needs.{needs}
 use Rattle.verifier.proofs.Outcomes.{they-may-not-be-compared, they-are-compared}

@@ -1,9 +1,8 @@
 -- `register_at`: scratch memory that is too short tells nothing; otherwise the mark says whether a path comes.
--- Assumes nothing.
 use mathlib.Core.Path.{_∙_}
 use native.Mathlib.Omega.{arith}
 use borrow.Author.Needs.{needs}
-use Rattle.verifier.specs.Scratch.{words}
+use Rattle.waiting.specs.Layout.{words}
 use Rattle.verifier.proofs.Inspecting.{outside-nothing-is-known, unmarked-nothing-is-known, marked-a-register-is-known}
 use Rattle.verifier.proofs.inspect.register_at.Statement.{statement}
 use Rattle.verifier.proofs.inspect.register_at.Tie as tie

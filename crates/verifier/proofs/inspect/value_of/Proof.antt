@@ -1,7 +1,6 @@
 -- `value_of`: each kind is a test of the definition.
--- Assumes nothing.
 use borrow.Author.Tests.{ne-eqb}
-use Rattle.verifier.specs.Scratch.{heldIn, ofKind}
+use Rattle.waiting.specs.State.{heldIn, ofKind}
 use Rattle.verifier.proofs.inspect.value_of.Statement.{statement}
 use Rattle.verifier.proofs.inspect.value_of.Tie as tie
 

@@ -1,5 +1,4 @@
 -- `follow`: the pass from index i on ends as the whole does, and little enough is done that no sum wraps.
--- Assumes nothing.
 use Prim.Native.Nat.{_-_}
 use mathlib.Core.Path.{_≡_, refl, _∙_}
 use native.Mathlib.Omega.{arith}

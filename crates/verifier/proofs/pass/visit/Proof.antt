@@ -1,5 +1,4 @@
 -- `visit`: an index that no path reaches is passed over; at another a jump or an outcome goes on.
--- Assumes nothing.
 use mathlib.Core.Path.{ap, _∙_}
 use borrow.Author.Needs.{needs}
 use Rattle.analysis.specs.Effects.{effect}

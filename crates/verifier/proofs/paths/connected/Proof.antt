@@ -1,5 +1,4 @@
 -- `connected`: the pass from index i on finds what the whole does.
--- Assumes nothing.
 use Prim.Native.Nat.{_-_, _≤_}
 use mathlib.Core.Path.{_≡_, refl, sym}
 use native.Mathlib.Omega.{arith}

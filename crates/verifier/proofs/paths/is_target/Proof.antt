@@ -1,5 +1,4 @@
 -- `is_target` reads a bit.
--- Assumes nothing.
 use mathlib.Core.Path.{refl}
 use borrow.Author.Needs.{needs}
 use Rattle.word.specs.Word.{bit}

@@ -1,5 +1,4 @@
 -- `leave`: opcode and off are those of the instruction, and its target is inside of the program.
--- Assumes nothing.
 use mathlib.Core.Path.{sym}
 use native.Mathlib.Omega.{arith}
 use borrow.Author.Needs.{needs}

@@ -1,5 +1,4 @@
 -- `mark` sets a bit.
--- Assumes nothing.
 use mathlib.Core.Path.{refl}
 use borrow.Author.Needs.{needs}
 use Rattle.verifier.proofs.Targets.{a-bit-is-set}

@@ -1,5 +1,4 @@
 -- `fork`: numbers are compared; the first way leaves the state that the second sends.
--- Assumes nothing.
 use native.Mathlib.Omega.{arith}
 use borrow.Author.Needs.{needs}
 use Rattle.verifier.proofs.Steps.{a-send-leaves, a-jump-on-no-numbers, a-jump-that-halts, a-jump-that-goes-on}

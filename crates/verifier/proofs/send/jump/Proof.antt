@@ -1,5 +1,4 @@
 -- `jump`: two known numbers go one way; others fork.
--- Assumes nothing.
 use Rattle.verifier.proofs.Singles.{both-are-told, a-decided-jump-is-sent}
 use borrow.Author.Needs.{needs}
 use Rattle.verifier.proofs.send.jump.Statement.{statement}

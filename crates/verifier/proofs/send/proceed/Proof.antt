@@ -1,5 +1,4 @@
 -- `proceed`: each code is an equation of the definition.
--- Assumes nothing.
 use mathlib.Core.Path.{refl}
 use borrow.Author.Needs.{needs}
 use borrow.Author.Tests.{ne-eqb}

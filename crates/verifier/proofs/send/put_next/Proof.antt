@@ -1,5 +1,4 @@
 -- `put_next`: where nothing waits the state is changed at its new place, elsewhere before it is sent.
--- Assumes nothing.
 use native.Mathlib.Omega.{arith}
 use Rattle.verifier.proofs.Steps.{what-is-sent-arrives}
 use borrow.Author.Needs.{needs}

@@ -1,5 +1,4 @@
 -- `reason_of`: each number is a test of the definition.
--- Assumes nothing.
 use borrow.Author.Tests.{ne-eqb}
 use Rattle.verifier.specs.Outcome.{reasonOf}
 use Rattle.verifier.proofs.send.reason_of.Statement.{statement}

@@ -1,5 +1,4 @@
 -- `send`: a target outside is refused, and else the state arrives.
--- Assumes nothing.
 use borrow.Author.Needs.{needs}
 use Rattle.verifier.proofs.Steps.{what-leads-out-is-refused, what-is-sent-arrives}
 use Rattle.verifier.proofs.send.send.Statement.{statement}

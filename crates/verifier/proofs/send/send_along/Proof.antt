@@ -1,5 +1,4 @@
 -- `send_along`: a way that is excluded sends nothing.
--- Assumes nothing.
 use mathlib.Core.Path.{refl}
 use borrow.Author.Needs.{needs}
 use Rattle.analysis.specs.Judged.{send, along}

@@ -1,5 +1,4 @@
 -- `send_with`: the register is changed, and its words are put back.
--- Assumes nothing.
 use mathlib.Core.Path.{refl}
 use borrow.Author.Needs.{needs}
 use Rattle.verifier.proofs.Steps.{a-changed-state-is-sent}

@@ -1,5 +1,4 @@
 -- `send_with_both`: the first register is changed around the second.
--- Assumes nothing.
 use mathlib.Core.Path.{sym}
 use native.Mathlib.Omega.{arith}
 use borrow.Author.Needs.{needs}

@@ -1,5 +1,4 @@
 -- `turn`: one way or the other.
--- Assumes nothing.
 use borrow.Author.Needs.{needs}
 use Rattle.verifier.proofs.send.turn.Statement.{statement}
 use Rattle.verifier.proofs.send.turn.Tie as tie

@@ -1,5 +1,4 @@
 -- `annotate`: each answer is a law of its own; a good length leaves no product and no sum to wrap.
--- Assumes nothing.
 use mathlib.Core.Path.{refl, sym, _∙_}
 use native.Mathlib.Omega.{arith}
 use borrow.Author.Needs.{needs}

@@ -1,5 +1,4 @@
 -- `annotate_orderly`: each answer is a law of its own; a good length leaves no product and no sum to wrap.
--- Assumes nothing.
 use mathlib.Core.Path.{sym, _∙_}
 use native.Mathlib.Omega.{arith}
 use borrow.Author.Needs.{needs}
@@ -20,8 +19,8 @@ add-t12 c = omega (arith, unconnected-dead _ _ _ (sym (c .before .before .before
 mul-if1 : tie.Need-mul-if1
 mul-if1 c = omega (arith, a-good-length _ (c .before .before .before .before .before .pre .0))
 
-mul-t18 : tie.Need-mul-t18
-mul-t18 c = omega (arith, a-good-length _ (c .before .before .before .before .before .before .pre .0))
+mul-t19 : tie.Need-mul-t19
+mul-t19 c = omega (arith, a-good-length _ (c .before .before .before .before .before .before .pre .0))
 
 returns : tie.Need-returns
 returns c = let start = c .before .before .before .before .before .before in too-little-memory _ _ _ _ _ (start .pre .0) (start .pre .1) (start .pre .2) (start .pre .3) (c .before .before .before .connected .ensures) (c .before .enum-told .given .1) (c .if1 .taken)
@@ -45,7 +44,7 @@ annotate-orderly-spec =
     add-t12
     (λ c. search needs)
     mul-if1
-    mul-t18
+    mul-t19
     returns
     follow-requires
     returns-2

@@ -1,5 +1,4 @@
 -- `bad_program`: the tests are those of the definition.
--- Assumes nothing.
 use mathlib.Core.Path.{refl}
 use borrow.Author.Needs.{needs}
 use Rattle.machine.specs.Machine.{badProgram}

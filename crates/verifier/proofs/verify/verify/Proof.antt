@@ -1,5 +1,4 @@
 -- `verify`: the answer is that of `annotate`, and promises what the theorems say.
--- Assumes nothing.
 use borrow.Author.Needs.{needs}
 use Rattle.verifier.proofs.Promise.{the-answer-promises}
 use Rattle.verifier.proofs.verify.verify.Statement.{statement}

@@ -1,5 +1,4 @@
 -- `is_taken`: each width by its function.
--- Assumes nothing.
 use borrow.Author.Needs.{needs}
 use Rattle.machine.specs.Machine.{bits}
 use Rattle.verifier.proofs.ways.is_taken.Statement.{statement}

@@ -1,5 +1,4 @@
 -- `told_there`: each width by its function.
--- Assumes nothing.
 use borrow.Author.Needs.{needs}
 use Rattle.number.specs.Compare.{refined}
 use Rattle.number.specs.Halves.{refined32}

@@ -1,0 +1,4 @@
+pub mod ByKind
+pub mod Words
+pub mod States
+pub mod Blocks
