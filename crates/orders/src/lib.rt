@@ -1,5 +1,5 @@
 // The words of the command line as an order, what is wrong with them, and the help text: all on slices, with no input or output.
-// The arguments are one slice, each followed by a 0 byte. The definitions that the contracts cite are in `specs/`. Assumes nothing.
+// The arguments are one slice, each followed by a 0 byte. The definitions that the contracts cite are in `specs/`.
 ghost use Prim.Native.Nat.{_≤_};
 ghost use lib.ListN.{length};
 ghost use Rattle.orders.specs.Orders.{Answer, Sane, Stepped};
@@ -23,7 +23,6 @@ use word::next_word;
 use word::option_of;
 use word::options_of;
 use word::topic_of;
-use word::topic_of_verb;
 
 mod manual;
 mod message;
@@ -48,10 +47,7 @@ pub enum Verb {
 
 pub enum Topic {
     Whole,
-    Verify,
-    Explain,
-    Run,
-    Show,
+    Of(Verb),
     Batch,
     Help,
 }
@@ -97,6 +93,14 @@ pub enum Parsed {
     Wrong { fault: Fault, at: Span },
 }
 
+fn wrong(k: usize, fault: Fault, start: usize, end: usize) -> Parsed
+    requires { ⌜ (start ≤ end) × (end ≤ k) ⌝ }
+    ensures { λ r. ⌜ Answer k r ⌝ }
+{
+    let at = Span { start, end };
+    Parsed::Wrong { fault, at }
+}
+
 fn kind_of(seen: u64) -> Kind {
     if seen & RAW != 0 {
         return Kind::Raw;
@@ -139,24 +143,12 @@ fn finish_run(args: &[u8], p: Progress) -> Parsed
     ensures { λ r. ⌜ Answer (length (now (args .entry))) r ⌝ }
 {
     if p.seen & RECORD_FILE == 0 {
-        return Parsed::Wrong {
-            fault: Fault::NoRecordFile,
-            at: Span { start: 0, end: 0 },
-        };
+        return wrong(args.len(), Fault::NoRecordFile, 0, 0);
     }
     let file = p.file;
-    let start = file.start;
-    let end = file.end;
     let rec_file = p.rec_file;
-    let first = rec_file.start;
-    let last = rec_file.end;
-    if is_dash(&args[start..end]) {
-        if is_dash(&args[first..last]) {
-            return Parsed::Wrong {
-                fault: Fault::TwoStdin,
-                at: file,
-            };
-        }
+    if is_dash(args, file.start, file.end) & is_dash(args, rec_file.start, rec_file.end) {
+        return wrong(args.len(), Fault::TwoStdin, file.start, file.end);
     }
     order_of(args.len(), Verb::Run, p)
 }
@@ -170,10 +162,7 @@ fn finish_verb(args: &[u8], verb: Verb, p: Progress) -> Parsed
         Verb::Show => order_of(args.len(), Verb::Show, p),
         Verb::Verify | Verb::Explain => {
             if p.seen & RECORD == 0 {
-                return Parsed::Wrong {
-                    fault: Fault::NoRecord,
-                    at: Span { start: 0, end: 0 },
-                };
+                return wrong(args.len(), Fault::NoRecord, 0, 0);
             }
             order_of(args.len(), verb, p)
         }
@@ -186,17 +175,16 @@ fn finish(args: &[u8], verb: Verb, p: Progress) -> Parsed
     ensures { λ r. ⌜ Answer (length (now (args .entry))) r ⌝ }
 {
     if p.seen & FILE == 0 {
-        return Parsed::Wrong {
-            fault: Fault::NoFile,
-            at: Span { start: 0, end: 0 },
-        };
+        return wrong(args.len(), Fault::NoFile, 0, 0);
     }
     if (p.seen & SECTION != 0) & (p.seen & (RAW | HEX) != 0) {
         let section = p.section;
-        return Parsed::Wrong {
-            fault: Fault::SectionNeedsElf,
-            at: section,
-        };
+        return wrong(
+            args.len(),
+            Fault::SectionNeedsElf,
+            section.start,
+            section.end,
+        );
     }
     finish_verb(args, verb, p)
 }
@@ -206,7 +194,7 @@ fn stopped(k: usize, from: usize, verb: Verb, step: Step) -> Parsed
     ensures { λ r. ⌜ Answer k r ⌝ }
 {
     let Step::Stop { fault, at } = step else {
-        return Parsed::HelpOn(topic_of_verb(verb));
+        return Parsed::HelpOn(Topic::Of(verb));
     };
     Parsed::Wrong { fault, at }
 }
@@ -252,21 +240,12 @@ fn parse_help(args: &[u8], from: usize) -> Parsed
     let end = find(args, from, 0);
     let next = next_word(args, end);
     if next < args.len() {
-        return Parsed::Wrong {
-            fault: Fault::ExtraWord,
-            at: Span {
-                start: next,
-                end: find(args, next, 0),
-            },
-        };
+        return wrong(args.len(), Fault::ExtraWord, next, find(args, next, 0));
     }
     let head = topic_of(&args[from..end]);
     match head {
         Head::Is(topic) => Parsed::HelpOn(topic),
-        Head::Not => Parsed::Wrong {
-            fault: Fault::UnknownVerb,
-            at: Span { start: from, end },
-        },
+        Head::Not => wrong(args.len(), Fault::UnknownVerb, from, end),
     }
 }
 
@@ -279,10 +258,7 @@ fn parse_batch(args: &[u8], from: usize) -> Parsed
     if option_of(&args[from..end]) == HELP {
         return Parsed::HelpOn(Topic::Batch);
     }
-    Parsed::Wrong {
-        fault: Fault::BatchAlone,
-        at: Span { start: from, end },
-    }
+    wrong(args.len(), Fault::BatchAlone, from, end)
 }
 
 pub fn parse(args: &[u8]) -> Parsed
@@ -291,25 +267,16 @@ pub fn parse(args: &[u8]) -> Parsed
     let end = find(args, 0, 0);
     let next = next_word(args, end);
     if args.len() == 0 {
-        return Parsed::Wrong {
-            fault: Fault::NoVerb,
-            at: Span { start: 0, end: 0 },
-        };
+        return wrong(args.len(), Fault::NoVerb, 0, 0);
     }
     let head = topic_of(&args[0..end]);
     let Head::Is(topic) = head else {
-        return Parsed::Wrong {
-            fault: Fault::UnknownVerb,
-            at: Span { start: 0, end },
-        };
+        return wrong(args.len(), Fault::UnknownVerb, 0, end);
     };
     match topic {
         Topic::Whole => Parsed::HelpOn(Topic::Whole),
-        Topic::Help => parse_help(args, next),
+        Topic::Of(verb) => parse_words(args, verb, next),
         Topic::Batch => parse_batch(args, next),
-        Topic::Verify => parse_words(args, Verb::Verify, next),
-        Topic::Explain => parse_words(args, Verb::Explain, next),
-        Topic::Run => parse_words(args, Verb::Run, next),
-        Topic::Show => parse_words(args, Verb::Show, next),
+        Topic::Help => parse_help(args, next),
     }
 }

@@ -1,149 +1,142 @@
 // The help text: of the whole command, and of each verb with its options, the exit statuses and an example.
-// What finds no room is left out. Assumes nothing.
+// A page is up to four texts of tables, in which ~ stands for the end of a line. What finds no room is left out.
 ghost use Prim.Native.Nat.{_≤_};
 ghost use lib.ListN.{length};
 use crate::Topic;
-use text::page::write_text;
+use crate::Verb;
+use text::table::write_marked;
 
-fn write_statuses(out: &mut [u8], at: usize, example: &[u8]) -> usize
+// No text has this number.
+const NOTHING: u64 = 99;
+
+const OPTIONS: u64 = 0;
+
+const STATUSES: u64 = 1;
+
+// The numbers of a page's texts: its own, what all verbs that read a probe say of it, the exit statuses, the example behind them.
+struct Page(u64, u64, u64, u64);
+
+fn page_of_verb(verb: Verb) -> Page {
+    match verb {
+        Verb::Verify => Page(0, OPTIONS, STATUSES, 2),
+        Verb::Explain => Page(1, OPTIONS, STATUSES, 3),
+        Verb::Run => Page(2, OPTIONS, STATUSES, 4),
+        Verb::Show => Page(3, OPTIONS, STATUSES, 5),
+    }
+}
+
+fn page_of(topic: Topic) -> Page {
+    match topic {
+        Topic::Of(verb) => page_of_verb(verb),
+        Topic::Whole => Page(4, NOTHING, STATUSES, 2),
+        Topic::Batch => Page(5, NOTHING, NOTHING, NOTHING),
+        Topic::Help => Page(6, NOTHING, NOTHING, NOTHING),
+    }
+}
+
+fn write_of_verb(out: &mut [u8], k: u64) -> usize
+    ensures { λ r. ⌜ r ≤ length (now (out .entry)) ⌝ }
+{
+    write_marked(
+        out,
+        0,
+        b"usage: probewarden verify FILE --record N [OPTION..]~\
+        Says whether a probe is safe to run on every record of N bytes.~\
+        ~options~\
+        \x20 --record N       the record's length in bytes, 0 to 1024~\n\
+        usage: probewarden explain FILE --record N [OPTION..]~\
+        Verifies a probe, and lists each instruction with what is known of its registers~\
+        and why it is refused, if it is.~\
+        ~options~\
+        \x20 --record N       the record's length in bytes, 0 to 1024~\n\
+        usage: probewarden run FILE --record-file F [OPTION..]~\
+        Runs a probe on one record, whether it was verified or not.~\
+        ~options~\
+        \x20 --record-file F  the file with the record's bytes, at most 1024 (- is standard input)~\
+        \x20 --record-at P    the record's address, 0x100000 if not given~\
+        \x20 --stack-at S     the stack's address, 0x200000 if not given~\
+        \x20 --budget B       the number of steps after which the run ends, 4096 if not given~\
+        \x20 --trace          list each step~\n\
+        usage: probewarden show FILE [OPTION..]~\
+        Lists a probe's instructions.~\
+        ~options~\n",
+        k,
+        b'~',
+        b"\n",
+    )
+}
+
+fn write_of_other(out: &mut [u8], k: u64) -> usize
+    ensures { λ r. ⌜ r ≤ length (now (out .entry)) ⌝ }
+{
+    write_marked(
+        out,
+        0,
+        b"usage: probewarden VERB ..~\
+        ~\
+        \x20 verify FILE --record N       is the probe safe on every record of N bytes?~\
+        \x20 explain FILE --record N      the same, with what is known at each instruction~\
+        \x20 run FILE --record-file F     run the probe on one record~\
+        \x20 show FILE                    list the probe's instructions~\
+        \x20 batch <requests >answers     answer many requests, one a line~\
+        \x20 help [VERB]                  this text, or a verb's options~\
+        ~FILE is raw bytes, hexadecimal text or an ELF object for BPF; - is standard input.~\n\
+        usage: probewarden batch <requests >answers~\
+        Answers requests from standard input, one a line, each by a line of its own.~\
+        ~requests~\
+        \x20 verify R HEX                             the reason and its place, 0 0 for yes~\
+        \x20 run R P S BUDGET HEXPROGRAM HEXRECORD    the outcome of a run~\
+        \x20 kb OP WIDTH V/M V/M                      the known bits of an operation's result~\
+        Any other line is answered by error. P and S may be hexadecimal after 0x.~\
+        ~example~\
+        \x20 echo 'verify 0 b7000000000000009500000000000000' | probewarden batch~\n\
+        usage: probewarden help [VERB]~\
+        Prints what the command does, or what a verb does and its options.~\
+        VERB is verify, explain, run, show, batch or help. VERB --help does the same.~\
+        ~example~\
+        \x20 probewarden help verify~\n",
+        k,
+        b'~',
+        b"\n",
+    )
+}
+
+fn write_own(out: &mut [u8], k: u64) -> usize
+    ensures { λ r. ⌜ r ≤ length (now (out .entry)) ⌝ }
+{
+    if k < 4 {
+        return write_of_verb(out, k);
+    }
+    write_of_other(out, k - 4)
+}
+
+// What several pages have, and the examples.
+fn write_common(out: &mut [u8], at: usize, k: u64) -> usize
     requires { ⌜ at ≤ length (now out) ⌝ }
     ensures { λ r. ⌜ (at ≤ r) × (r ≤ length (now (out .entry))) ⌝ }
 {
-    let o = write_text(
+    write_marked(
         out,
         at,
-        b"\nexit status\n\
-        \x20 0  yes, or it ran\n\
-        \x20 1  refused, or it faulted\n\
-        \x20 2  bad usage or unreadable input\n\
-        \nexample\n  ",
-    );
-    write_text(out, o, example)
-}
-
-// What all verbs that read a probe say of it, with a verb's own lines before it.
-fn write_verb(out: &mut [u8], own: &[u8], example: &[u8]) -> usize
-    ensures { λ r. ⌜ r ≤ length (now (out .entry)) ⌝ }
-{
-    let o = write_text(out, 0, own);
-    let o = write_text(
-        out,
-        o,
-        b"  --section NAME   the section of an ELF object that holds the probe\n\
-        \x20 --raw            FILE is the probe's bytes\n\
-        \x20 --hex            FILE is hexadecimal text, # starts a comment\n\
-        \x20 --elf            FILE is an ELF object for BPF\n\
-        \nWithout one of the last three, FILE itself tells. FILE - is standard input.\n\
-        Options stand before or after FILE, --record N is also --record=N, and after\n\
-        -- a name may start with a dash. Numbers are decimal, or hexadecimal after 0x.\n",
-    );
-    write_statuses(out, o, example)
-}
-
-fn write_verify(out: &mut [u8]) -> usize
-    ensures { λ r. ⌜ r ≤ length (now (out .entry)) ⌝ }
-{
-    write_verb(
-        out,
-        b"usage: probewarden verify FILE --record N [OPTION..]\n\
-        Says whether a probe is safe to run on every record of N bytes.\n\
-        \noptions\n\
-        \x20 --record N       the record's length in bytes, 0 to 1024\n",
-        b"probewarden verify probe.o --record 64\n",
-    )
-}
-
-fn write_explain(out: &mut [u8]) -> usize
-    ensures { λ r. ⌜ r ≤ length (now (out .entry)) ⌝ }
-{
-    write_verb(
-        out,
-        b"usage: probewarden explain FILE --record N [OPTION..]\n\
-        Verifies a probe, and lists each instruction with what is known of its registers\n\
-        and why it is refused, if it is.\n\
-        \noptions\n\
-        \x20 --record N       the record's length in bytes, 0 to 1024\n",
-        b"probewarden explain probe.o --record 64\n",
-    )
-}
-
-fn write_run(out: &mut [u8]) -> usize
-    ensures { λ r. ⌜ r ≤ length (now (out .entry)) ⌝ }
-{
-    write_verb(
-        out,
-        b"usage: probewarden run FILE --record-file F [OPTION..]\n\
-        Runs a probe on one record, whether it was verified or not.\n\
-        \noptions\n\
-        \x20 --record-file F  the file with the record's bytes, at most 1024 (- is standard input)\n\
-        \x20 --record-at P    the record's address, 0x100000 if not given\n\
-        \x20 --stack-at S     the stack's address, 0x200000 if not given\n\
-        \x20 --budget B       the number of steps after which the run ends, 4096 if not given\n\
-        \x20 --trace          list each step\n",
-        b"probewarden run probe.o --record-file record.bin --budget 1000\n",
-    )
-}
-
-fn write_show(out: &mut [u8]) -> usize
-    ensures { λ r. ⌜ r ≤ length (now (out .entry)) ⌝ }
-{
-    write_verb(
-        out,
-        b"usage: probewarden show FILE [OPTION..]\n\
-        Lists a probe's instructions.\n\
-        \noptions\n",
-        b"probewarden show probe.hex --hex\n",
-    )
-}
-
-fn write_batch(out: &mut [u8]) -> usize
-    ensures { λ r. ⌜ r ≤ length (now (out .entry)) ⌝ }
-{
-    write_text(
-        out,
-        0,
-        b"usage: probewarden batch <requests >answers\n\
-        Answers requests from standard input, one a line, each by a line of its own.\n\
-        \nrequests\n\
-        \x20 verify R HEX                             the reason and its place, 0 0 for yes\n\
-        \x20 run R P S BUDGET HEXPROGRAM HEXRECORD    the outcome of a run\n\
-        \x20 kb OP WIDTH V/M V/M                      the known bits of an operation's result\n\
-        Any other line is answered by error. P and S may be hexadecimal after 0x.\n\
-        \nexample\n\
-        \x20 echo 'verify 0 b7000000000000009500000000000000' | probewarden batch\n",
-    )
-}
-
-fn write_whole(out: &mut [u8]) -> usize
-    ensures { λ r. ⌜ r ≤ length (now (out .entry)) ⌝ }
-{
-    let o = write_text(
-        out,
-        0,
-        b"usage: probewarden VERB ..\n\
-        \n\
-        \x20 verify FILE --record N       is the probe safe on every record of N bytes?\n\
-        \x20 explain FILE --record N      the same, with what is known at each instruction\n\
-        \x20 run FILE --record-file F     run the probe on one record\n\
-        \x20 show FILE                    list the probe's instructions\n\
-        \x20 batch <requests >answers     answer many requests, one a line\n\
-        \x20 help [VERB]                  this text, or a verb's options\n\
-        \nFILE is raw bytes, hexadecimal text or an ELF object for BPF; - is standard input.\n",
-    );
-    write_statuses(out, o, b"probewarden verify probe.o --record 64\n")
-}
-
-fn write_help(out: &mut [u8]) -> usize
-    ensures { λ r. ⌜ r ≤ length (now (out .entry)) ⌝ }
-{
-    write_text(
-        out,
-        0,
-        b"usage: probewarden help [VERB]\n\
-        Prints what the command does, or what a verb does and its options.\n\
-        VERB is verify, explain, run, show, batch or help. VERB --help does the same.\n\
-        \nexample\n\
-        \x20 probewarden help verify\n",
+        b"  --section NAME   the section of an ELF object that holds the probe~\
+        \x20 --raw            FILE is the probe's bytes~\
+        \x20 --hex            FILE is hexadecimal text, # starts a comment~\
+        \x20 --elf            FILE is an ELF object for BPF~\
+        ~Without one of the last three, FILE itself tells. FILE - is standard input.~\
+        Options stand before or after FILE, --record N is also --record=N, and after~\
+        -- a name may start with a dash. Numbers are decimal, or hexadecimal after 0x.~\n\
+        ~exit status~\
+        \x20 0  yes, or it ran~\
+        \x20 1  refused, or it faulted~\
+        \x20 2  bad usage or unreadable input~\
+        ~example~  \n\
+        probewarden verify probe.o --record 64~\n\
+        probewarden explain probe.o --record 64~\n\
+        probewarden run probe.o --record-file record.bin --budget 1000~\n\
+        probewarden show probe.hex --hex~\n",
+        k,
+        b'~',
+        b"\n",
     )
 }
 
@@ -151,13 +144,9 @@ fn write_help(out: &mut [u8]) -> usize
 pub fn help(topic: Topic, out: &mut [u8]) -> usize
     ensures { λ r. ⌜ r ≤ length (now (out .entry)) ⌝ }
 {
-    match topic {
-        Topic::Whole => write_whole(out),
-        Topic::Verify => write_verify(out),
-        Topic::Explain => write_explain(out),
-        Topic::Run => write_run(out),
-        Topic::Show => write_show(out),
-        Topic::Batch => write_batch(out),
-        Topic::Help => write_help(out),
-    }
+    let page = page_of(topic);
+    let o = write_own(out, page.0);
+    let o = write_common(out, o, page.1);
+    let o = write_common(out, o, page.2);
+    write_common(out, o, page.3)
 }

@@ -1,5 +1,4 @@
 // One word of a verb's arguments after the other: what it adds to the order, or what is wrong with it.
-// Assumes nothing.
 ghost use Prim.Native.Nat.{_≤_, _<_};
 ghost use lib.ListN.{length};
 ghost use Rattle.orders.specs.Orders.{Sane, Stepped};
@@ -9,6 +8,7 @@ use crate::word::DASHES;
 use crate::word::FILE;
 use crate::word::HELP;
 use crate::word::KINDS;
+use crate::word::NAMED;
 use crate::word::RECORD;
 use crate::word::RECORD_AT;
 use crate::word::RECORD_FILE;
@@ -41,21 +41,26 @@ pub enum Step {
     Stop { fault: Fault, at: Span },
 }
 
+fn stop(k: usize, from: usize, fault: Fault, start: usize, end: usize) -> Step
+    requires { ⌜ (start ≤ end) × (end ≤ k) ⌝ }
+    ensures { λ r. ⌜ Stepped k from r ⌝ }
+{
+    let at = Span { start, end };
+    Step::Stop { fault, at }
+}
+
 fn take_file(k: usize, p: Progress, start: usize, end: usize, next: usize) -> Step
     requires { ⌜ Sane k p × ((start ≤ end) × ((end ≤ k) × ((start < next) × (next ≤ k)))) ⌝ }
     ensures { λ r. ⌜ Stepped k start r ⌝ }
 {
-    let at = Span { start, end };
     if p.seen & FILE != 0 {
-        return Step::Stop {
-            fault: Fault::TwoFiles,
-            at,
-        };
+        return stop(k, start, Fault::TwoFiles, start, end);
     }
+    let file = Span { start, end };
     let mut q = p;
     q.next = next;
     q.seen = p.seen | FILE;
-    q.file = at;
+    q.file = file;
     Step::Go(q)
 }
 
@@ -81,69 +86,65 @@ fn take_number(k: usize, p: Progress, option: u64, n: u64, start: usize) -> Step
     Step::Go(q)
 }
 
+// A name for an option, from `from` to `end`.
+fn take_name(k: usize, p: Progress, option: u64, start: usize, from: usize, end: usize) -> Step
+    requires { ⌜ Sane k p × ((start ≤ from) × ((from ≤ end) × ((end ≤ k) × (start < p .next)))) ⌝ }
+    ensures { λ r. ⌜ Stepped k start r ⌝ }
+{
+    let name = Span { start: from, end };
+    let mut q = p;
+    if option == RECORD_FILE {
+        q.rec_file = name;
+        return Step::Go(q);
+    }
+    if from == end {
+        return stop(k, start, Fault::EmptySection, start, end);
+    }
+    q.section = name;
+    Step::Go(q)
+}
+
 // The value of an option, from `from` to `end`.
 fn take_value(args: &[u8], p: Progress, option: u64, start: usize, from: usize, end: usize) -> Step
     requires { ⌜ Sane (length (now args)) p × ((start ≤ from) × ((from ≤ end) × ((end ≤ length (now args)) × (start < p .next)))) ⌝ }
     ensures { λ r. ⌜ Stepped (length (now (args .entry))) start r ⌝ }
 {
-    let value = Span { start: from, end };
-    let mut q = p;
-    if option == RECORD_FILE {
-        q.rec_file = value;
-        return Step::Go(q);
-    }
-    if option == SECTION {
-        if from == end {
-            return Step::Stop {
-                fault: Fault::EmptySection,
-                at: Span { start, end },
-            };
-        }
-        q.section = value;
-        return Step::Go(q);
+    if option & NAMED != 0 {
+        return take_name(args.len(), p, option, start, from, end);
     }
     let number = read_number(&args[from..end]);
     match number {
         Number::Is(n) => take_number(args.len(), p, option, n, start),
-        Number::Not => Step::Stop {
-            fault: Fault::NotANumber,
-            at: Span { start, end },
-        },
+        Number::Not => stop(args.len(), start, Fault::NotANumber, start, end),
     }
+}
+
+// Whether an option may stand here. No option is 0.
+fn may_stand(option: u64, allowed: u64, seen: u64) -> bool {
+    (option & allowed != 0) & (option & seen == 0) & ((option & KINDS == 0) | (seen & KINDS == 0))
 }
 
 // Why an option may not stand here.
-enum Standing {
-    Fine,
-    Bad(Fault),
-}
-
-fn test_option(option: u64, allowed: u64, seen: u64) -> Standing {
+fn fault_of(option: u64, allowed: u64, seen: u64) -> Fault {
     if option == 0 {
-        return Standing::Bad(Fault::UnknownOption);
+        return Fault::UnknownOption;
     }
     if option & allowed == 0 {
-        return Standing::Bad(Fault::NotForVerb);
+        return Fault::NotForVerb;
     }
     if option & seen != 0 {
-        return Standing::Bad(Fault::Twice);
+        return Fault::Twice;
     }
-    if (option & KINDS != 0) & (seen & KINDS != 0) {
-        return Standing::Bad(Fault::TwoKinds);
-    }
-    Standing::Fine
+    Fault::TwoKinds
 }
 
-// An option without a value. `end` is where its name ends, and `stop` where its word does.
-fn take_switch(k: usize, p: Progress, option: u64, start: usize, end: usize, stop: usize) -> Step
-    requires { ⌜ Sane k p × ((start ≤ end) × ((end ≤ stop) × ((stop ≤ k) × (start < p .next)))) ⌝ }
+// An option without a value. `end` is where its name ends, and `last` where its word does.
+fn take_switch(k: usize, p: Progress, option: u64, start: usize, end: usize, last: usize) -> Step
+    requires { ⌜ Sane k p × ((start ≤ end) × ((end ≤ last) × ((last ≤ k) × (start < p .next)))) ⌝ }
     ensures { λ r. ⌜ Stepped k start r ⌝ }
 {
-    if end < stop {
-        return Step::Stop {
-            fault: Fault::UnwantedValue,
-            at: Span { start, end: stop },
-        };
+    if end < last {
+        return stop(k, start, Fault::UnwantedValue, start, last);
     }
     if option == HELP {
         return Step::Help;
@@ -152,24 +153,44 @@ fn take_switch(k: usize, p: Progress, option: u64, start: usize, end: usize, sto
 }
 
 // An option's value, which is the rest of its word or the next word. `p` is at that word.
-fn take_valued(args: &[u8], p: Progress, option: u64, start: usize, end: usize, stop: usize) -> Step
-    requires { ⌜ Sane (length (now args)) p × ((start ≤ end) × ((end ≤ stop) × ((stop ≤ length (now args)) × (start < p .next)))) ⌝ }
+fn take_valued(args: &[u8], p: Progress, option: u64, start: usize, end: usize, last: usize) -> Step
+    requires { ⌜ Sane (length (now args)) p × ((start ≤ end) × ((end ≤ last) × ((last ≤ length (now args)) × (start < p .next)))) ⌝ }
     ensures { λ r. ⌜ Stepped (length (now (args .entry))) start r ⌝ }
 {
-    if end < stop {
-        return take_value(args, p, option, start, end + 1, stop);
+    if end < last {
+        return take_value(args, p, option, start, end + 1, last);
     }
-    let next = p.next;
-    if next >= args.len() {
-        return Step::Stop {
-            fault: Fault::MissingValue,
-            at: Span { start, end: stop },
-        };
+    let from = p.next;
+    if from >= args.len() {
+        return stop(args.len(), start, Fault::MissingValue, start, last);
     }
-    let last = find(args, next, 0);
+    let to = find(args, from, 0);
     let mut q = p;
-    q.next = next_word(args, last);
-    take_value(args, q, option, start, next, last)
+    q.next = next_word(args, to);
+    take_value(args, q, option, start, from, to)
+}
+
+// Where the name of the option ends whose word ends at `last`.
+fn name_end(args: &[u8], start: usize, last: usize) -> usize
+    requires { ⌜ (start ≤ last) × (last ≤ length (now args)) ⌝ }
+    ensures { λ r. ⌜ (start ≤ r) × (r ≤ last) ⌝ }
+{
+    let end = find(args, start, b'=');
+    if end < last {
+        return end;
+    }
+    last
+}
+
+// An option whose name is known. `p` is at the next word.
+fn take_known(args: &[u8], p: Progress, option: u64, start: usize, end: usize, last: usize) -> Step
+    requires { ⌜ Sane (length (now args)) p × ((start ≤ end) × ((end ≤ last) × ((last ≤ length (now args)) × (start < p .next)))) ⌝ }
+    ensures { λ r. ⌜ Stepped (length (now (args .entry))) start r ⌝ }
+{
+    if option & SWITCHES != 0 {
+        return take_switch(args.len(), p, option, start, end, last);
+    }
+    take_valued(args, p, option, start, end, last)
 }
 
 fn take_option(
@@ -177,28 +198,28 @@ fn take_option(
     allowed: u64,
     p: Progress,
     start: usize,
-    stop: usize,
+    last: usize,
     next: usize,
 ) -> Step
-    requires { ⌜ Sane (length (now args)) p × ((start ≤ stop) × ((stop ≤ length (now args)) × ((start < next) × (next ≤ length (now args))))) ⌝ }
+    requires { ⌜ Sane (length (now args)) p × ((start ≤ last) × ((last ≤ length (now args)) × ((start < next) × (next ≤ length (now args))))) ⌝ }
     ensures { λ r. ⌜ Stepped (length (now (args .entry))) start r ⌝ }
 {
-    let end = start + find(&args[start..stop], 0, b'=');
+    let end = name_end(args, start, last);
     let option = option_of(&args[start..end]);
-    let standing = test_option(option, allowed, p.seen);
-    if let Standing::Bad(fault) = standing {
-        return Step::Stop {
-            fault,
-            at: Span { start, end: stop },
-        };
+    let seen = p.seen;
+    if !may_stand(option, allowed, seen) {
+        return stop(
+            args.len(),
+            start,
+            fault_of(option, allowed, seen),
+            start,
+            last,
+        );
     }
     let mut q = p;
     q.next = next;
-    q.seen = p.seen | option;
-    if option & SWITCHES != 0 {
-        return take_switch(args.len(), q, option, start, end, stop);
-    }
-    take_valued(args, q, option, start, end, stop)
+    q.seen = seen | option;
+    take_known(args, q, option, start, end, last)
 }
 
 // The word at `p.next`.
@@ -207,13 +228,10 @@ pub fn take_word(args: &[u8], allowed: u64, p: Progress) -> Step
     ensures { λ r. ⌜ Stepped (length (now (args .entry))) (p .next) r ⌝ }
 {
     let start = p.next;
-    let stop = find(args, start, 0);
-    let next = next_word(args, stop);
-    if p.seen & DASHES != 0 {
-        return take_file(args.len(), p, start, stop, next);
+    let last = find(args, start, 0);
+    let next = next_word(args, last);
+    if (p.seen & DASHES == 0) & is_option(args, start, last) {
+        return take_option(args, allowed, p, start, last, next);
     }
-    if is_option(&args[start..stop]) {
-        return take_option(args, allowed, p, start, stop, next);
-    }
-    take_file(args.len(), p, start, stop, next)
+    take_file(args.len(), p, start, last, next)
 }

@@ -1,11 +1,12 @@
 // The words of the command line: where one ends, and which option or verb it is.
-// An option is a bit, so that a set of options is a number. Assumes nothing.
+// An option is a bit, so that a set of options is a number.
 ghost use mathlib.Core.Path.{_≡_};
 ghost use Prim.Native.Nat.{_+_, _≤_, min};
 ghost use lib.ListN.{length};
 use crate::Topic;
 use crate::Verb;
 use text::scan::same;
+use text::table::position_of;
 
 pub const RECORD: u64 = 1;
 
@@ -34,6 +35,8 @@ pub const DASHES: u64 = 2048;
 pub const FILE: u64 = 4096;
 
 pub const KINDS: u64 = RAW | HEX | ELF;
+// Those whose value is a name.
+pub const NAMED: u64 = RECORD_FILE | SECTION;
 // Those that take no value.
 pub const SWITCHES: u64 = TRACE | KINDS | HELP | DASHES;
 
@@ -50,64 +53,38 @@ pub fn next_word(args: &[u8], end: usize) -> usize
     end
 }
 
-fn kind_of(word: &[u8]) -> u64 {
-    if same(word, b"--raw") {
-        return RAW;
+// The option that a word is, or 0: each but the last stands at the number of its bit.
+pub fn option_of(word: &[u8]) -> u64 {
+    let k = position_of(
+        b"--record\n--record-file\n--record-at\n--stack-at\n--budget\n--trace\n\
+        --section\n--raw\n--hex\n--elf\n--help\n--\n-h\n",
+        13,
+        word,
+    );
+    if k < 12 {
+        return 1 << k;
     }
-    if same(word, b"--hex") {
-        return HEX;
-    }
-    if same(word, b"--elf") {
-        return ELF;
-    }
-    if same(word, b"--section") {
-        return SECTION;
-    }
-    if same(word, b"--help") {
+    if k == 12 {
         return HELP;
-    }
-    if same(word, b"-h") {
-        return HELP;
-    }
-    if same(word, b"--") {
-        return DASHES;
     }
     0
 }
 
-// The option that a word is, or 0.
-pub fn option_of(word: &[u8]) -> u64 {
-    if same(word, b"--record") {
-        return RECORD;
-    }
-    if same(word, b"--record-file") {
-        return RECORD_FILE;
-    }
-    if same(word, b"--record-at") {
-        return RECORD_AT;
-    }
-    if same(word, b"--stack-at") {
-        return STACK_AT;
-    }
-    if same(word, b"--budget") {
-        return BUDGET;
-    }
-    if same(word, b"--trace") {
-        return TRACE;
-    }
-    kind_of(word)
-}
-
 // A word with a dash in front is an option, except `-` alone, which is standard input.
-pub fn is_option(word: &[u8]) -> bool {
-    if word.len() < 2 {
+pub fn is_option(args: &[u8], start: usize, end: usize) -> bool
+    requires { ⌜ (start ≤ end) × (end ≤ length (now args)) ⌝ }
+{
+    if end - start < 2 {
         return false;
     }
-    word[0] == b'-'
+    args[start] == b'-'
 }
 
-pub fn is_dash(word: &[u8]) -> bool {
-    same(word, b"-")
+// Whether a piece of the arguments is `-` alone.
+pub fn is_dash(args: &[u8], start: usize, end: usize) -> bool
+    requires { ⌜ (start ≤ end) × (end ≤ length (now args)) ⌝ }
+{
+    same(&args[start..end], b"-")
 }
 
 // The options that a verb takes.
@@ -126,36 +103,24 @@ pub enum Head {
     Not,
 }
 
-pub fn topic_of(word: &[u8]) -> Head {
-    if same(word, b"verify") {
-        return Head::Is(Topic::Verify);
+fn topic_at(k: u64) -> Head {
+    match k {
+        0 => Head::Is(Topic::Of(Verb::Verify)),
+        1 => Head::Is(Topic::Of(Verb::Explain)),
+        2 => Head::Is(Topic::Of(Verb::Run)),
+        3 => Head::Is(Topic::Of(Verb::Show)),
+        4 => Head::Is(Topic::Batch),
+        5 => Head::Is(Topic::Help),
+        6 | 7 => Head::Is(Topic::Whole),
+        _ => Head::Not,
     }
-    if same(word, b"explain") {
-        return Head::Is(Topic::Explain);
-    }
-    if same(word, b"run") {
-        return Head::Is(Topic::Run);
-    }
-    if same(word, b"show") {
-        return Head::Is(Topic::Show);
-    }
-    if same(word, b"batch") {
-        return Head::Is(Topic::Batch);
-    }
-    if same(word, b"help") {
-        return Head::Is(Topic::Help);
-    }
-    if option_of(word) == HELP {
-        return Head::Is(Topic::Whole);
-    }
-    Head::Not
 }
 
-pub fn topic_of_verb(verb: Verb) -> Topic {
-    match verb {
-        Verb::Verify => Topic::Verify,
-        Verb::Explain => Topic::Explain,
-        Verb::Run => Topic::Run,
-        Verb::Show => Topic::Show,
-    }
+pub fn topic_of(word: &[u8]) -> Head {
+    let k = position_of(
+        b"verify\nexplain\nrun\nshow\nbatch\nhelp\n--help\n-h\n",
+        8,
+        word,
+    );
+    topic_at(k)
 }

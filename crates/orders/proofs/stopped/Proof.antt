@@ -12,4 +12,4 @@ pub stopped-spec : {M : Type 1} → statement M
 stopped-spec =
     tie.close
     (tie.spec
-    (λ c. search needs) (λ c κs. search needs) (λ c. search needs) returns-2)
+    (λ c. search needs) (λ c. search needs) returns-2)
