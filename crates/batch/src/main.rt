@@ -5,6 +5,7 @@ ghost use lib.ListN.{length};
 use console::answer::LONGEST;
 use console::answer::respond;
 use text::scan::find;
+use waiting::MOST_WORDS;
 
 // Where the first line to be answered starts, and whether the line that was too long goes on past what was read.
 struct Front {
@@ -192,13 +193,13 @@ fn serve(
 }
 
 // The window takes in the longest line, and a good part of the next. A line's hex has half as many bytes as the line has characters.
-// Scratch memory is enough for 4,096 instructions, 56 words each: no program that passes the tests on form has more.
+// Scratch memory is enough for every program that passes the tests on form.
 fn main() {
     let mut window = [0u8; 131072];
     let mut program = [0u8; 35000];
     let mut rec = [0u8; 35000];
     let mut stack = [0u8; 512];
-    let mut scratch = [0u64; 229376];
+    let mut scratch = [0u64; MOST_WORDS];
     let mut out = [0u8; 65536];
     serve(
         &mut window,

@@ -16,6 +16,7 @@ use terminal::arguments::refuse_arguments;
 use terminal::arguments::refuse_words;
 use terminal::arguments::take_arguments;
 use terminal::program::fetch_program;
+use waiting::MOST_WORDS;
 
 mod lines;
 mod run;
@@ -91,7 +92,7 @@ fn main() {
     let mut file = [0u8; 524288];
     let mut bare = [0u8; 524288];
     let mut spelled = [0u8; 262144];
-    let mut scratch = [0u64; 229376];
+    let mut scratch = [0u64; MOST_WORDS];
     let mut rec = [0u8; 1026];
     let mut stack = [0u8; 512];
     let mut out = [0u8; 4096];

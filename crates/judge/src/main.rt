@@ -15,6 +15,7 @@ use terminal::arguments::refuse_words;
 use terminal::arguments::take_arguments;
 use terminal::ending::status;
 use terminal::program::fetch_program;
+use waiting::MOST_WORDS;
 
 fn judge_file(
     args: &[u8],
@@ -83,7 +84,7 @@ fn main() {
     let mut file = [0u8; 524288];
     let mut bare = [0u8; 524288];
     let mut spelled = [0u8; 262144];
-    let mut scratch = [0u64; 229376];
+    let mut scratch = [0u64; MOST_WORDS];
     let mut out = [0u8; 4096];
     let n = take_arguments(&mut args);
     if n == args.len() {

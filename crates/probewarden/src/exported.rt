@@ -18,6 +18,7 @@ use reasons::reason_number;
 use text::buffer::put;
 use verifier::Answer;
 use verifier::verify::verify;
+use waiting::BLOCK_WORDS;
 
 // Why nothing was done: there is no room for the answer.
 const NO_ROOM: u64 = 9;
@@ -37,7 +38,7 @@ pub extern "C" fn pw_scratch_words(instructions: u64) -> u64
     ensures { λ r. ⌜ r ≡ enough instructions ⌝ }
 {
     if instructions <= 4096 {
-        return 56 * instructions;
+        return (BLOCK_WORDS as u64) * instructions;
     }
     0
 }
