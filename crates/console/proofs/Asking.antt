@@ -1,5 +1,4 @@
 -- A request about known bits by what was read of it; its pairs have the form.
--- Assumes nothing.
 use mathlib.Core.Bool.{Bool, true, false, cond, _&&_}
 use mathlib.Core.List.{List}
 use mathlib.Core.Path.{_≡_, refl, sym, ap, _∙_}

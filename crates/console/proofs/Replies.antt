@@ -1,5 +1,4 @@
 -- The reply to a run or a verify by what was read of it, and to a line by its verb; it needs no more of the stack than the length.
--- Assumes nothing.
 use mathlib.Core.Bool.{Bool, true, false, cond, true≢false}
 use mathlib.Core.List.{List}
 use mathlib.Core.Path.{_≡_, refl, sym, ap, _∙_}

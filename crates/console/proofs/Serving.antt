@@ -1,5 +1,4 @@
 -- The pairs that serve a task, by what the operations on pairs promise, and the reply that they make.
--- Assumes nothing.
 use mathlib.Core.Bool.{true, false}
 use mathlib.Core.List.{List}
 use mathlib.Core.Logic.{_⊎_, inl, inr}

@@ -1,5 +1,4 @@
 -- A program and a record that were read, and no word after them.
--- Assumes nothing.
 use mathlib.Core.Bool.{true, false}
 use mathlib.Core.List.{List}
 use mathlib.Core.Path.{sym, ap, ap₂, _∙_, _≡_}

@@ -1,5 +1,4 @@
 -- An answer has at most 50 characters, its line end among them.
--- Assumes nothing.
 use mathlib.Core.List.{List, _++_}
 use Prim.Native.Nat.{ℕ, _≤_}
 use native.Mathlib.Omega.{arith}

@@ -1,5 +1,4 @@
 -- The protocol's definition computed on lines: what is asked, and what is answered.
--- Assumes nothing.
 use mathlib.Core.List.{List, [], _∷_}
 use mathlib.Core.Path.{_≡_, refl}
 use Prim.Native.Nat.{ℕ}

@@ -1,5 +1,4 @@
 -- A word that `skip` and `find` have found is the first word of the rest of the line.
--- Assumes nothing.
 use mathlib.Core.List.{List}
 use mathlib.Core.Path.{_≡_, sym, ap, _∙_}
 use Prim.Native.Nat.{ℕ, _-_}

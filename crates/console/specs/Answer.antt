@@ -1,5 +1,4 @@
 -- What a request line is answered with.
--- Assumes nothing.
 use mathlib.Core.Bool.{Bool, true, false, cond, _&&_}
 use mathlib.Core.List.{List, _++_}
 use mathlib.Core.Path.{_≡_}

@@ -1,5 +1,4 @@
 -- What a request about known bits says, and which numbers the pair that answers it must have.
--- Assumes nothing.
 use mathlib.Core.Bool.{cond}
 use mathlib.Core.List.{List}
 use mathlib.Core.Logic.{_⊎_}

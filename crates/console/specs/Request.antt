@@ -1,5 +1,4 @@
 -- What a request line says: its words, the numbers and the bytes of `run`.
--- Assumes nothing.
 use mathlib.Core.Bool.{Bool, cond}
 use mathlib.Core.List.{List}
 use mathlib.Core.Path.{_≡_}

@@ -1,5 +1,4 @@
 -- No two answers are said alike; and what a C function promises, from what the routine that it calls promises.
--- Assumes nothing.
 use mathlib.Core.Path.{_≡_, refl, sym, ap, _∙_}
 use mathlib.Core.List.{List, [], _∷_, _++_}
 use Prim.Native.Nat.{ℕ, suc, _+_, _≤_, _<_}

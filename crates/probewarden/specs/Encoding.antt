@@ -1,5 +1,4 @@
 -- What the C functions answer: a code, and the words at the start of the caller's answer.
--- Assumes nothing.
 use mathlib.Core.List.{List, [], _∷_, _++_}
 use Prim.Native.Nat.{ℕ}
 use lib.ListN.{length, drop}

@@ -1,5 +1,4 @@
 -- What verifying and running in one call comes to.
--- Assumes nothing.
 use mathlib.Core.Path.{_≡_}
 use mathlib.Core.Logic.{_↔_}
 use mathlib.Core.Bool.{cond}

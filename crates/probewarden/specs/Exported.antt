@@ -1,5 +1,4 @@
 -- What the C functions promise: a code and the caller's answer, by the definitions of the analysis and of the machine.
--- Assumes nothing.
 use mathlib.Core.Path.{_≡_}
 use mathlib.Core.Bool.{cond}
 use mathlib.Core.List.{List}

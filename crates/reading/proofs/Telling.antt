@@ -1,5 +1,4 @@
 -- What the C function promises, from what loading promises of each of its answers.
--- Assumes nothing.
 use mathlib.Core.Path.{_≡_, refl, subst}
 use mathlib.Core.List.{List, [], _∷_}
 use Prim.Native.Nat.{ℕ, _+_, _-_, _≤_, _<_}

@@ -1,5 +1,4 @@
 -- What the C function promises: where the program that its code and the caller's answer tell of lies.
--- Assumes nothing.
 use mathlib.Core.Path.{_≡_}
 use mathlib.Core.List.{List}
 use Prim.Native.Nat.{ℕ, _+_, _≤_, _<_}

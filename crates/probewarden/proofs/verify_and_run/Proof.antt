@@ -1,5 +1,4 @@
 -- `verify_and_run`: each answer of the verifier leads to its ending.
--- Assumes nothing.
 use mathlib.Core.Path.{refl, sym, ap, _∙_, subst}
 use borrow.Author.Needs.{needs}
 use Rattle.analysis.specs.declared.Judged.{Judged}
@@ -8,12 +7,6 @@ use Rattle.verifier.specs.Answered.{IsYes}
 use Rattle.probewarden.proofs.Ending.{judgement-is-judged, accepted-runs}
 use Rattle.probewarden.proofs.verify_and_run.Statement.{statement}
 use Rattle.probewarden.proofs.verify_and_run.Tie as tie
-
-returns : tie.Need-returns
-returns c = record { case = record { says = sym (c .before .answer .given .1) ∙ c .before .before .before .before .before .verify .ensures .0; no-yes = tt; untouched = refl } }
-
-returns-2 : tie.Need-returns-2
-returns-2 c = record { case = record { says = sym (c .before .before .before .answer2 .given .1) ∙ c .before .before .before .before .before .before .before .verify .ensures .0; no-yes = λ h. refused-not-accepted _ _ (sym (c .enum-told .given .1) ∙ h); untouched = refl } }
 
 returns-3 : tie.Need-returns-3
 returns-3 c =
@@ -27,4 +20,10 @@ returns-3 c =
 pub verify-and-run-spec : {M : Type 1} → statement M
 verify-and-run-spec =
     tie.close
-    (tie.spec (λ c κs. search needs) (λ c. search needs) (λ c. search needs) (λ c. search needs) (λ c. search needs) (λ c κs. search needs) (λ c. search needs) returns (λ c. search needs) returns-2 (λ c. search needs) (λ c. search needs) returns-3)
+    (tie.spec
+    (λ c κs. search needs) (λ c. search needs) (λ c. search needs) (λ c. search needs) (λ c. search needs) (λ c κs. search needs)
+    (λ c. search needs)
+    (λ c. record { case = record { says = sym (c .before .answer .given .1) ∙ c .before .before .before .before .before .verify .ensures .0; no-yes = tt; untouched = refl } })
+    (λ c. search needs)
+    (λ c. record { case = record { says = sym (c .before .before .before .answer2 .given .1) ∙ c .before .before .before .before .before .before .before .verify .ensures .0; no-yes = λ h. refused-not-accepted _ _ (sym (c .enum-told .given .1) ∙ h); untouched = refl } })
+    (λ c. search needs) (λ c. search needs) returns-3)

@@ -13,36 +13,13 @@ Inv-loop program rec p s budget stack₀ out₀ regs₀ pc₀ live₀ made₀ st
 abbrev μ-loop : tie.MeasureT-loop
 μ-loop program rec p s budget stack₀ out₀ regs₀ pc₀ live₀ made₀ stack out regs pc live made = budget - made
 
-loop-again : tie.Need-loop-again Inv-loop μ-loop
-loop-again c = (search needs, search needs, go-narrow (c .before .before .before .before .before .before .before .before .before .before .trace-step .ensures .leads) _ _ (c .before .next .given .1), search needs, search needs)
-
 pub trace-spec : {M : Type 1} → statement M
 trace-spec =
     tie.close
     (tie.spec
-    Inv-loop
-    μ-loop
-    (λ c. search needs)
-    (λ c. search needs)
-    (λ c. search needs)
-    (λ c. search needs)
-    (λ c κs. search needs)
-    (λ c κs. search needs)
-    (λ c. search needs)
-    (λ c. search needs)
-    (λ c. search needs)
-    (λ c. search needs)
-    (λ c. search needs)
-    (λ c. search needs)
-    (λ c. search needs)
-    (λ c. search needs)
-    (λ c. search needs)
-    (λ c. search needs)
-    (λ c. search needs)
-    (λ c. search needs)
-    (λ c. search needs)
-    (λ c. search needs)
-    loop-again
-    (λ c. search needs)
-    (λ c. search needs)
-    (λ c. search needs))
+    Inv-loop μ-loop (λ c. search needs) (λ c. search needs) (λ c. search needs) (λ c. search needs) (λ c κs. search needs)
+    (λ c κs. search needs) (λ c. search needs) (λ c. search needs) (λ c. search needs) (λ c. search needs) (λ c. search needs)
+    (λ c. search needs) (λ c. search needs) (λ c. search needs) (λ c. search needs) (λ c. search needs) (λ c. search needs)
+    (λ c. search needs) (λ c. search needs) (λ c. search needs)
+    (λ c. (search needs, search needs, go-narrow (c .before .before .before .before .before .before .before .before .before .before .trace-step .ensures .leads) _ _ (c .before .next .given .1), search needs, search needs))
+    (λ c. search needs) (λ c. search needs) (λ c. search needs))

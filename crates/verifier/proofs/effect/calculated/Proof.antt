@@ -6,21 +6,11 @@ use Rattle.verifier.proofs.KindLaws.{what-32-bits-make}
 use Rattle.verifier.proofs.effect.calculated.Statement.{statement}
 use Rattle.verifier.proofs.effect.calculated.Tie as tie
 
-returns : tie.Need-returns
-unfolding bits
-returns c = rw (c .before .enum-told .given .1) (c .calculated64 .ensures)
-
-returns-2 : tie.Need-returns-2
-unfolding bits
-returns-2 c = rw (c .before .enum-told2 .given .1) (c .calculated32 .ensures ∙ sym (what-32-bits-make _ _ _ _ (c .before .before .before .pre)))
-
 pub calculated-spec : {M : Type 1} → statement M
+unfolding bits
 calculated-spec =
     tie.close
     (tie.spec
-    (λ c. search needs)
-    (λ c κs. search needs)
-    (λ c. search needs)
-    (λ c κs. search needs)
-    returns
-    returns-2)
+    (λ c. search needs) (λ c κs. search needs) (λ c. search needs) (λ c κs. search needs)
+    (λ c. rw (c .before .enum-told .given .1) (c .calculated64 .ensures))
+    (λ c. rw (c .before .enum-told2 .given .1) (c .calculated32 .ensures ∙ sym (what-32-bits-make _ _ _ _ (c .before .before .before .pre)))))

@@ -6,27 +6,14 @@ use Rattle.verifier.proofs.Outcomes.{no-result, a-result, in-order, the
 use Rattle.verifier.proofs.effect.calculated64.Statement.{statement}
 use Rattle.verifier.proofs.effect.calculated64.Tie as tie
 
-returns : tie.Need-returns
-returns c = c .refuse-kinds .ensures ∙ no-result _ _ _ _ _ (c .before .before .before .pre) (c .before .before .result-kind .ensures) (c .before .if1 .taken)
-
-returns-2 : tie.Need-returns-2
-unfolding heldIn
-returns-2 c = c .put .ensures ∙ a-result _ _ _ _ _ (c .before .before .before .before .before .before .pre) (c .before .before .before .before .before .result-kind .ensures) _ (c .before .before .before .before .if1 .left) (c .before .alu64 .ensures ∙ the-other-way _ _ _ _ (c .before .before .if2 .taken))
-
-returns-3 : tie.Need-returns-3
-unfolding heldIn
-returns-3 c = c .put2 .ensures ∙ a-result _ _ _ _ _ (c .before .before .before .before .before .before .pre) (c .before .before .before .before .before .result-kind .ensures) _ (c .before .before .before .before .if1 .left) (c .before .alu642 .ensures ∙ in-order _ _ _ _ (c .before .before .if2 .left))
-
 pub calculated64-spec : {M : Type 1} → statement M
+unfolding heldIn
 calculated64-spec =
     tie.close
     (tie.spec
-    (λ c κs. search needs)
-    (λ c κs. search needs)
-    returns
-    (λ c κs. search needs)
-    (λ c κs. search needs)
-    returns-2
-    (λ c κs. search needs)
-    (λ c κs. search needs)
-    returns-3)
+    (λ c κs. search needs) (λ c κs. search needs)
+    (λ c. c .refuse-kinds .ensures ∙ no-result _ _ _ _ _ (c .before .before .before .pre) (c .before .before .result-kind .ensures) (c .before .if1 .taken))
+    (λ c κs. search needs) (λ c κs. search needs)
+    (λ c. c .put .ensures ∙ a-result _ _ _ _ _ (c .before .before .before .before .before .before .pre) (c .before .before .before .before .before .result-kind .ensures) _ (c .before .before .before .before .if1 .left) (c .before .alu64 .ensures ∙ the-other-way _ _ _ _ (c .before .before .if2 .taken)))
+    (λ c κs. search needs) (λ c κs. search needs)
+    (λ c. c .put2 .ensures ∙ a-result _ _ _ _ _ (c .before .before .before .before .before .before .pre) (c .before .before .before .before .before .result-kind .ensures) _ (c .before .before .before .before .if1 .left) (c .before .alu642 .ensures ∙ in-order _ _ _ _ (c .before .before .if2 .left))))

@@ -6,17 +6,10 @@ use Rattle.verifier.proofs.Outcomes.{it-is-the-verdict, it-is-no-verdic
 use Rattle.verifier.proofs.effect.exited.Statement.{statement}
 use Rattle.verifier.proofs.effect.exited.Tie as tie
 
-returns : tie.Need-returns
-unfolding effectIn
-returns c = it-is-the-verdict _ (c .if1 .taken)
-
-returns-2 : tie.Need-returns-2
-returns-2 c = c .refuse-kinds .ensures ∙ it-is-no-verdict _ (c .before .if1 .left)
-
 pub exited-spec : {M : Type 1} → statement M
+unfolding effectIn
 exited-spec =
     tie.close
     (tie.spec
-    returns
-    (λ c κs. search needs)
-    returns-2)
+    (λ c. it-is-the-verdict _ (c .if1 .taken)) (λ c κs. search needs)
+    (λ c. c .refuse-kinds .ensures ∙ it-is-no-verdict _ (c .before .if1 .left)))

@@ -4,15 +4,9 @@ use borrow.Author.Needs.{needs}
 use Rattle.verifier.proofs.effect.inside.Statement.{statement}
 use Rattle.verifier.proofs.effect.inside.Tie as tie
 
-returns : tie.Need-returns
-returns c = rw (sym (c .before .before .before .exactly .ensures), sym (c .before .before .alu64 .ensures), sym (c .before .bytes .ensures)) (c .fits2 .ensures)
-
 pub inside-spec : {M : Type 1} → statement M
 inside-spec =
     tie.close
     (tie.spec
-    (λ c κs. search needs)
-    (λ c κs. search needs)
-    (λ c κs. search needs)
-    (λ c κs. search needs)
-    returns)
+    (λ c κs. search needs) (λ c κs. search needs) (λ c κs. search needs) (λ c κs. search needs)
+    (λ c. rw (sym (c .before .before .before .exactly .ensures), sym (c .before .before .alu64 .ensures), sym (c .before .bytes .ensures)) (c .fits2 .ensures)))

@@ -7,35 +7,14 @@ use Rattle.verifier.proofs.Outcomes.{it-may-not-be-read, it-is-no-addre
 use Rattle.verifier.proofs.effect.loaded.Statement.{statement}
 use Rattle.verifier.proofs.effect.loaded.Tie as tie
 
-returns : tie.Need-returns
-returns c = c .refuse-kinds .ensures ∙ it-may-not-be-read _ _ (c .before .if1 .taken)
-
-returns-2 : tie.Need-returns-2
-unfolding reasonOf
-returns-2 c = c .refuse .ensures ∙ it-is-no-address _ _ _ _ _ (c .before .if2 .taken)
-
-returns-3 : tie.Need-returns-3
-unfolding loaded
-returns-3 c = c .put .ensures ∙ it-is-loaded-from _ _ _ _ _ _ _ (c .before .before .before .before .before .before .before .before .before .if1 .left) (c .before .before .before .before .before .before .before .if2 .left) (c .before .before .before .before .before .before .limit .ensures) (sym (c .before .before .before .before .before .inside .ensures) ∙ c .before .before .before .before .if3 .taken) (c .before .plain .ensures ∙ rw (c .before .before .load .ensures, c .before .before .before .last .ensures))
-
-returns-4 : tie.Need-returns-4
-unfolding reasonOf
-returns-4 c = c .refuse2 .ensures ∙ it-leads-outside _ _ _ _ _ _ (c .before .before .before .before .before .before .if1 .left) (c .before .before .before .before .if2 .left) (c .before .before .before .limit .ensures) (sym (c .before .before .inside .ensures) ∙ c .before .if3 .left)
-
 pub loaded-spec : {M : Type 1} → statement M
+unfolding reasonOf loaded
 loaded-spec =
     tie.close
     (tie.spec
+    (λ c κs. search needs) (λ c. c .refuse-kinds .ensures ∙ it-may-not-be-read _ _ (c .before .if1 .taken)) (λ c κs. search needs)
+    (λ c. c .refuse .ensures ∙ it-is-no-address _ _ _ _ _ (c .before .if2 .taken)) (λ c κs. search needs) (λ c κs. search needs)
+    (λ c κs. search needs) (λ c κs. search needs) (λ c κs. search needs) (λ c κs. search needs)
+    (λ c. c .put .ensures ∙ it-is-loaded-from _ _ _ _ _ _ _ (c .before .before .before .before .before .before .before .before .before .if1 .left) (c .before .before .before .before .before .before .before .if2 .left) (c .before .before .before .before .before .before .limit .ensures) (sym (c .before .before .before .before .before .inside .ensures) ∙ c .before .before .before .before .if3 .taken) (c .before .plain .ensures ∙ rw (c .before .before .load .ensures, c .before .before .before .last .ensures)))
     (λ c κs. search needs)
-    returns
-    (λ c κs. search needs)
-    returns-2
-    (λ c κs. search needs)
-    (λ c κs. search needs)
-    (λ c κs. search needs)
-    (λ c κs. search needs)
-    (λ c κs. search needs)
-    (λ c κs. search needs)
-    returns-3
-    (λ c κs. search needs)
-    returns-4)
+    (λ c. c .refuse2 .ensures ∙ it-leads-outside _ _ _ _ _ _ (c .before .before .before .before .before .before .if1 .left) (c .before .before .before .before .if2 .left) (c .before .before .before .limit .ensures) (sym (c .before .before .inside .ensures) ∙ c .before .if3 .left)))

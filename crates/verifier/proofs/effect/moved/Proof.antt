@@ -7,21 +7,11 @@ use Rattle.verifier.proofs.KindLaws.{one-value-read-as-two}
 use Rattle.verifier.proofs.effect.moved.Statement.{statement}
 use Rattle.verifier.proofs.effect.moved.Tie as tie
 
-returns : tie.Need-returns
-unfolding arithmetic role
-returns c = λ x. rw (c .before .enum-told .given .1) (c .copied .ensures)
-
-returns-2 : tie.Need-returns-2
-unfolding arithmetic role bits
-returns-2 c = λ x. rw (c .before .enum-told2 .given .1) (c .calculated32 .ensures ∙ sym (one-value-read-as-two _ _))
-
 pub moved-spec : {M : Type 1} → statement M
+unfolding arithmetic role bits
 moved-spec =
     tie.close
     (tie.spec
-    (λ c. search needs)
-    (λ c κs. search needs)
-    (λ c. search needs)
-    (λ c κs. search needs)
-    returns
-    returns-2)
+    (λ c. search needs) (λ c κs. search needs) (λ c. search needs) (λ c κs. search needs)
+    (λ c. λ x. rw (c .before .enum-told .given .1) (c .copied .ensures))
+    (λ c. λ x. rw (c .before .enum-told2 .given .1) (c .calculated32 .ensures ∙ sym (one-value-read-as-two _ _))))

@@ -4,22 +4,11 @@ use Rattle.analysis.specs.Values.{operandOf}
 use Rattle.verifier.proofs.effect.operand_held.Statement.{statement}
 use Rattle.verifier.proofs.effect.operand_held.Tie as tie
 
-returns : tie.Need-returns
-unfolding operandOf
-returns c = rw (c .before .before .before .s .given .1, c .plain .ensures, c .before .exactly .ensures)
-
-returns-2 : tie.Need-returns-2
-unfolding operandOf
-returns-2 c = rw (c .before .before .s2 .given .1) (c .register .ensures .0)
-
 pub operand-held-spec : {M : Type 1} → statement M
+unfolding operandOf
 operand-held-spec =
     tie.close
     (tie.spec
-    (λ c. search needs)
-    (λ c κs. search needs)
-    (λ c κs. search needs)
-    (λ c. search needs)
-    (λ c κs. search needs)
-    returns
-    returns-2)
+    (λ c. search needs) (λ c κs. search needs) (λ c κs. search needs) (λ c. search needs) (λ c κs. search needs)
+    (λ c. rw (c .before .before .before .s .given .1, c .plain .ensures, c .before .exactly .ensures))
+    (λ c. rw (c .before .before .s2 .given .1) (c .register .ensures .0)))

@@ -5,16 +5,10 @@ use borrow.Author.Needs.{needs}
 use Rattle.verifier.proofs.effect.operand_single.Statement.{statement}
 use Rattle.verifier.proofs.effect.operand_single.Tie as tie
 
-returns : tie.Need-returns
-unfolding operandOf
-returns c = rw (c .before .s .given .1) refl
-
-returns-2 : tie.Need-returns-2
-unfolding operandOf
-returns-2 c = rw (c .before .before .s2 .given .1) (c .single-at .ensures)
-
 pub operand-single-spec : {M : Type 1} → statement M
+unfolding operandOf
 operand-single-spec =
     tie.close
     (tie.spec
-    (λ c. search needs) (λ c. search needs) (λ c κs. search needs) returns returns-2)
+    (λ c. search needs) (λ c. search needs) (λ c κs. search needs) (λ c. rw (c .before .s .given .1) refl)
+    (λ c. rw (c .before .before .s2 .given .1) (c .single-at .ensures)))

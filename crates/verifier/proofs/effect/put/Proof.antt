@@ -7,18 +7,9 @@ use Rattle.verifier.specs.Outcome.{reasonOf, effectIn}
 use Rattle.verifier.proofs.effect.put.Statement.{statement}
 use Rattle.verifier.proofs.effect.put.Tie as tie
 
-returns : tie.Need-returns
-unfolding put reasonOf
-returns c = c .refuse .ensures ∙ rw (c .before .if1 .taken)
-
-returns-2 : tie.Need-returns-2
-unfolding put effectIn
-returns-2 c = rw (ne-eqb _ _ (c .if1 .left))
-
 pub put-spec : {M : Type 1} → statement M
+unfolding put reasonOf effectIn
 put-spec =
     tie.close
     (tie.spec
-    (λ c κs. search needs)
-    returns
-    returns-2)
+    (λ c κs. search needs) (λ c. c .refuse .ensures ∙ rw (c .before .if1 .taken)) (λ c. rw (ne-eqb _ _ (c .if1 .left))))

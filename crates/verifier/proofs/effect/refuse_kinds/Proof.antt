@@ -7,16 +7,9 @@ use Rattle.verifier.proofs.Outcomes.{kinds-give-a-reason}
 use Rattle.verifier.proofs.effect.refuse_kinds.Statement.{statement}
 use Rattle.verifier.proofs.effect.refuse_kinds.Tie as tie
 
-refuse-requires : tie.Need-refuse-requires
-refuse-requires c κs = rw (c .unusable .ensures) (kinds-give-a-reason _ _)
-
-returns : tie.Need-returns
-returns c = c .refuse .ensures ∙ ap (λ k. Refuse (reasonOf k)) (c .before .unusable .ensures)
-
 pub refuse-kinds-spec : {M : Type 1} → statement M
 refuse-kinds-spec =
     tie.close
     (tie.spec
-    (λ c κs. search needs)
-    refuse-requires
-    returns)
+    (λ c κs. search needs) (λ c κs. rw (c .unusable .ensures) (kinds-give-a-reason _ _))
+    (λ c. c .refuse .ensures ∙ ap (λ k. Refuse (reasonOf k)) (c .before .unusable .ensures)))

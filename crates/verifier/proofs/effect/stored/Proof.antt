@@ -6,30 +6,14 @@ use Rattle.verifier.proofs.Outcomes.{it-may-not-be-stored, not-on-the-s
 use Rattle.verifier.proofs.effect.stored.Statement.{statement}
 use Rattle.verifier.proofs.effect.stored.Tie as tie
 
-returns : tie.Need-returns
-returns c = c .refuse-kinds .ensures ∙ it-may-not-be-stored _ _ _ _ (c .before .if1 .taken)
-
-returns-2 : tie.Need-returns-2
-unfolding reasonOf
-returns-2 c = c .refuse .ensures ∙ not-on-the-stack _ _ _ _ (c .before .before .before .if1 .left) (c .before .if2 .taken)
-
-returns-3 : tie.Need-returns-3
-unfolding effectIn
-returns-3 c = within-the-stack _ _ _ _ (c .before .before .before .before .if1 .left) (c .before .before .if2 .left) (sym (c .before .inside .ensures) ∙ c .if3 .taken)
-
-returns-4 : tie.Need-returns-4
-unfolding reasonOf
-returns-4 c = c .refuse2 .ensures ∙ beyond-the-stack _ _ _ _ (c .before .before .before .before .before .if1 .left) (c .before .before .before .if2 .left) (sym (c .before .before .inside .ensures) ∙ c .before .if3 .left)
-
 pub stored-spec : {M : Type 1} → statement M
+unfolding reasonOf effectIn
 stored-spec =
     tie.close
     (tie.spec
+    (λ c κs. search needs) (λ c. c .refuse-kinds .ensures ∙ it-may-not-be-stored _ _ _ _ (c .before .if1 .taken)) (λ c κs. search needs)
+    (λ c. c .refuse .ensures ∙ not-on-the-stack _ _ _ _ (c .before .before .before .if1 .left) (c .before .if2 .taken))
     (λ c κs. search needs)
-    returns
+    (λ c. within-the-stack _ _ _ _ (c .before .before .before .before .if1 .left) (c .before .before .if2 .left) (sym (c .before .inside .ensures) ∙ c .if3 .taken))
     (λ c κs. search needs)
-    returns-2
-    (λ c κs. search needs)
-    returns-3
-    (λ c κs. search needs)
-    returns-4)
+    (λ c. c .refuse2 .ensures ∙ beyond-the-stack _ _ _ _ (c .before .before .before .before .before .if1 .left) (c .before .before .before .if2 .left) (sym (c .before .before .inside .ensures) ∙ c .before .if3 .left)))

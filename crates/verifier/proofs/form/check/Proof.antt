@@ -16,30 +16,12 @@ Inv-loop program n i₀ i = (i ≤ n) × (formed program (n - i) i ≡ formed pr
 abbrev μ-loop : tie.MeasureT-loop
 μ-loop program n i₀ i = n - i
 
-loop-holds : tie.Need-loop-holds Inv-loop μ-loop
-loop-holds c = (omega arith, rw (sub-zero, c .before .pre .1))
-
-returns : tie.Need-returns Inv-loop μ-loop
-returns c = a-test-fails _ _ _ _ _ (c .before .before .before .before .loop-test .taken) (c .before .before .before .test-at .ensures) (c .before .before .before .before .before .loop .inv .1) _ (c .before .t .given .1)
-
-loop-again : tie.Need-loop-again Inv-loop μ-loop
-loop-again c = (omega arith, the-tests-go-on _ _ _ _ _ (c .before .before .before .loop-test .taken) (c .before .before .test-at .ensures) (c .before .before .before .before .loop .inv .1) (c .enum-told .given .1))
-
-returns-2 : tie.Need-returns-2 Inv-loop μ-loop
-returns-2 c = the-tests-end _ _ _ _ (c .loop-test .left) (c .before .loop .inv .1)
-
 pub check-spec : {M : Type 1} → statement M
 check-spec =
     tie.close
     (tie.spec
-    Inv-loop
-    μ-loop
-    loop-holds
-    (λ c κs. omega arith)
-    (λ c. search needs)
-    returns
-    (λ c. search needs)
-    (λ c. omega arith)
-    (λ c. omega arith)
-    loop-again
-    returns-2)
+    Inv-loop μ-loop (λ c. (omega arith, rw (sub-zero, c .before .pre .1))) (λ c κs. omega arith) (λ c. search needs)
+    (λ c. a-test-fails _ _ _ _ _ (c .before .before .before .before .loop-test .taken) (c .before .before .before .test-at .ensures) (c .before .before .before .before .before .loop .inv .1) _ (c .before .t .given .1))
+    (λ c. search needs) (λ c. omega arith) (λ c. omega arith)
+    (λ c. (omega arith, the-tests-go-on _ _ _ _ _ (c .before .before .before .loop-test .taken) (c .before .before .test-at .ensures) (c .before .before .before .before .loop .inv .1) (c .enum-told .given .1)))
+    (λ c. the-tests-end _ _ _ _ (c .loop-test .left) (c .before .loop .inv .1)))

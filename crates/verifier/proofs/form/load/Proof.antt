@@ -6,9 +6,10 @@ use Rattle.verifier.specs.Form.{hasLine, loadTests}
 use Rattle.verifier.proofs.form.load.Statement.{statement}
 use Rattle.verifier.proofs.form.load.Tie as tie
 
-returns : tie.Need-returns
-unfolding loadTests hasLine loads
-returns c = rw (sym (c .before .before .writing .ensures), sym (c .before .coded .ensures)) (c .coded2 .ensures)
-
 pub load-spec : {M : Type 1} → statement M
-load-spec = tie.close (tie.spec (λ c κs. search needs) (λ c κs. search needs) (λ c κs. search needs) returns)
+unfolding loadTests hasLine loads
+load-spec =
+    tie.close
+    (tie.spec
+    (λ c κs. search needs) (λ c κs. search needs) (λ c κs. search needs)
+    (λ c. rw (sym (c .before .before .writing .ensures), sym (c .before .coded .ensures)) (c .coded2 .ensures)))

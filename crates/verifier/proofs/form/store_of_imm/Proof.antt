@@ -6,9 +6,10 @@ use Rattle.verifier.specs.Form.{hasLine, storeOfImmTests}
 use Rattle.verifier.proofs.form.store_of_imm.Statement.{statement}
 use Rattle.verifier.proofs.form.store_of_imm.Tie as tie
 
-returns : tie.Need-returns
-unfolding storeOfImmTests hasLine storesOfImm
-returns c = rw (sym (c .before .before .going-on .ensures), sym (c .before .coded .ensures)) (c .coded2 .ensures)
-
 pub store-of-imm-spec : {M : Type 1} → statement M
-store-of-imm-spec = tie.close (tie.spec (λ c κs. search needs) (λ c κs. search needs) (λ c κs. search needs) returns)
+unfolding storeOfImmTests hasLine storesOfImm
+store-of-imm-spec =
+    tie.close
+    (tie.spec
+    (λ c κs. search needs) (λ c κs. search needs) (λ c κs. search needs)
+    (λ c. rw (sym (c .before .before .going-on .ensures), sym (c .before .coded .ensures)) (c .coded2 .ensures)))

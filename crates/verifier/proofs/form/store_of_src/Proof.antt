@@ -6,9 +6,10 @@ use Rattle.verifier.specs.Form.{hasLine, storeOfSrcTests}
 use Rattle.verifier.proofs.form.store_of_src.Statement.{statement}
 use Rattle.verifier.proofs.form.store_of_src.Tie as tie
 
-returns : tie.Need-returns
-unfolding storeOfSrcTests hasLine storesOfSrc
-returns c = rw (sym (c .before .before .going-on .ensures), sym (c .before .coded .ensures)) (c .coded2 .ensures)
-
 pub store-of-src-spec : {M : Type 1} → statement M
-store-of-src-spec = tie.close (tie.spec (λ c κs. search needs) (λ c κs. search needs) (λ c κs. search needs) returns)
+unfolding storeOfSrcTests hasLine storesOfSrc
+store-of-src-spec =
+    tie.close
+    (tie.spec
+    (λ c κs. search needs) (λ c κs. search needs) (λ c κs. search needs)
+    (λ c. rw (sym (c .before .before .going-on .ensures), sym (c .before .coded .ensures)) (c .coded2 .ensures)))

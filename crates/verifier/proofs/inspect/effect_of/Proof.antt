@@ -7,28 +7,12 @@ use Rattle.verifier.proofs.Outcomes.{no-jump}
 use Rattle.verifier.proofs.inspect.effect_of.Statement.{statement}
 use Rattle.verifier.proofs.inspect.effect_of.Tie as tie
 
-returns : tie.Need-returns
-unfolding effect shortened
-returns c = rw (c .before .before .before .ins .given .1, sym (c .before .target .ensures)) (c .fork-of .ensures)
-
-returns-2 : tie.Need-returns-2
-unfolding effect shortened
-returns-2 c = rw (c .before .before .ins2 .given .1, c .target2 .ensures)
-
-returns-3 : tie.Need-returns-3
-returns-3 c = c .effect-of-outcome .ensures ∙ c .before .outcome-of .ensures _ ∙ ap (effect _ _ _) (no-jump _ _ (c .before .before .match .keys3))
-
 pub effect-of-spec : {M : Type 1} → statement M
+unfolding effect shortened
 effect-of-spec =
     tie.close
     (tie.spec
-    (λ c. search needs)
-    (λ c κs. search needs)
-    (λ c κs. search needs)
-    (λ c. search needs)
-    (λ c κs. search needs)
-    (λ c κs. search needs)
-    (λ c κs. search needs)
-    returns
-    returns-2
-    returns-3)
+    (λ c. search needs) (λ c κs. search needs) (λ c κs. search needs) (λ c. search needs) (λ c κs. search needs) (λ c κs. search needs)
+    (λ c κs. search needs) (λ c. rw (c .before .before .before .ins .given .1, sym (c .before .target .ensures)) (c .fork-of .ensures))
+    (λ c. rw (c .before .before .ins2 .given .1, c .target2 .ensures))
+    (λ c. c .effect-of-outcome .ensures ∙ c .before .outcome-of .ensures _ ∙ ap (effect _ _ _) (no-jump _ _ (c .before .before .match .keys3))))

@@ -24,9 +24,6 @@ visit-requires c κs =
     let start = c .before .before .before .before .before .before .before .before .before in
     let q = c .before .before .loop .inv .1 .little in let p = c .before .before .loop .inv .0 in let z = c .before .before .before .before .before .begin .ensures .size in (c .before .loop-test .taken, start .pre .1, start .pre .2, omega arith, omega arith)
 
-same-length : tie.Need-same-length Inv-loop μ-loop
-same-length c = c .before .before .before .before .before .visit .ensures .made .size ∙ c .before .before .before .before .before .before .before .before .loop .inv .0 ∙ c .before .before .before .before .before .before .before .before .before .before .before .begin .ensures .size
-
 returns : tie.Need-returns Inv-loop μ-loop
 returns c =
     let head = c .before .before .before .before .before .before .before .before in
@@ -38,29 +35,12 @@ loop-again c =
     let head = c .before .before .before .before .before .before .before .before in
     (at-visit .visit .ensures .made .size ∙ head .loop .inv .0, the-pass-goes-on _ _ _ _ _ _ _ _ (c .before .before .before .before .before .before .before .loop-test .taken) (head .loop .inv .1) (rw (c .before .step2 .given .1) at (at-visit .visit .ensures)))
 
-same-length-2 : tie.Need-same-length-2 Inv-loop μ-loop
-same-length-2 c = c .before .loop .inv .0 ∙ c .before .before .before .before .begin .ensures .size
-
-returns-2 : tie.Need-returns-2 Inv-loop μ-loop
-returns-2 c = the-pass-ends _ _ _ _ _ _ _ (c .loop-test .left) (c .before .loop .inv .0 ∙ c .before .before .before .before .begin .ensures .size) (c .before .loop .inv .1)
-
 pub follow-spec : {M : Type 1} → statement M
 follow-spec =
     tie.close
     (tie.spec
-    Inv-loop
-    μ-loop
-    (λ c κs. omega arith)
-    (λ c. omega arith)
-    (λ c. omega arith)
-    loop-holds
-    visit-requires
-    (λ c. search needs)
-    same-length
-    returns
-    (λ c. search needs)
-    (λ c. omega arith)
-    (λ c. omega arith)
-    loop-again
-    same-length-2
-    returns-2)
+    Inv-loop μ-loop (λ c κs. omega arith) (λ c. omega arith) (λ c. omega arith) loop-holds visit-requires (λ c. search needs)
+    (λ c. c .before .before .before .before .before .visit .ensures .made .size ∙ c .before .before .before .before .before .before .before .before .loop .inv .0 ∙ c .before .before .before .before .before .before .before .before .before .before .before .begin .ensures .size)
+    returns (λ c. search needs) (λ c. omega arith) (λ c. omega arith) loop-again
+    (λ c. c .before .loop .inv .0 ∙ c .before .before .before .before .begin .ensures .size)
+    (λ c. the-pass-ends _ _ _ _ _ _ _ (c .loop-test .left) (c .before .loop .inv .0 ∙ c .before .before .before .before .begin .ensures .size) (c .before .loop .inv .1)))

@@ -17,37 +17,18 @@ Inv-loop program n marks₀ on₀ i₀ marks on i = (i ≤ n) × (length marks �
 abbrev μ-loop : tie.MeasureT-loop
 μ-loop program n marks₀ on₀ i₀ marks on i = n - i
 
-loop-holds : tie.Need-loop-holds Inv-loop μ-loop
-loop-holds c = (omega arith, refl, the-search-begins _ _ (c .before .pre .1))
-
-is-target-requires : tie.Need-is-target-requires Inv-loop μ-loop
-is-target-requires c κs = (c .before .before .loop .inv .1, omega (arith, c .before .loop-test .taken, c .before .before .before .before .pre .0))
-
-returns : tie.Need-returns Inv-loop μ-loop
-returns c = dead-code-is-found _ _ _ _ _ _ (c .before .before .before .loop-test .taken) (c .before .before .before .before .loop .inv .2) (rw (sym (c .before .is-target .ensures)) (not-true _ (c .if1 .taken)))
-
 leave-requires : tie.Need-leave-requires Inv-loop μ-loop
 leave-requires c κs =
     let start = c .before .before .before .before .before .before .before in
     (start .pre .0, c .before .before .before .before .loop-test .taken, start .pre .1, rw (start .pre .1) (passes-fine _ (start .pre .2) _ (rw (sym (start .pre .1)) (c .before .before .before .before .loop-test .taken))), c .before .before .before .before .before .loop .inv .1)
 
-loop-again : tie.Need-loop-again Inv-loop μ-loop
-loop-again c = (omega arith, c .leave .ensures .size, the-search-goes-on _ _ _ _ _ _ (c .before .before .before .before .before .loop-test .taken) (c .before .before .before .before .before .before .loop .inv .2) _ _ (rw (sym (c .before .before .before .is-target .ensures)) (not-false _ (c .before .before .if1 .left))) (c .leave .ensures))
-
-returns-2 : tie.Need-returns-2 Inv-loop μ-loop
-returns-2 c = the-search-ends _ _ _ _ _ _ (c .loop-test .left) (c .before .loop .inv .2)
-
 pub connected-spec : {M : Type 1} → statement M
 connected-spec =
     tie.close
     (tie.spec
-    Inv-loop
-    μ-loop
-    loop-holds
-    is-target-requires
-    returns
-    leave-requires
-    (λ c. omega arith)
-    (λ c. omega arith)
-    loop-again
-    returns-2)
+    Inv-loop μ-loop (λ c. (omega arith, refl, the-search-begins _ _ (c .before .pre .1)))
+    (λ c κs. (c .before .before .loop .inv .1, omega (arith, c .before .loop-test .taken, c .before .before .before .before .pre .0)))
+    (λ c. dead-code-is-found _ _ _ _ _ _ (c .before .before .before .loop-test .taken) (c .before .before .before .before .loop .inv .2) (rw (sym (c .before .is-target .ensures)) (not-true _ (c .if1 .taken))))
+    leave-requires (λ c. omega arith) (λ c. omega arith)
+    (λ c. (omega arith, c .leave .ensures .size, the-search-goes-on _ _ _ _ _ _ (c .before .before .before .before .before .loop-test .taken) (c .before .before .before .before .before .before .loop .inv .2) _ _ (rw (sym (c .before .before .before .is-target .ensures)) (not-false _ (c .before .before .if1 .left))) (c .leave .ensures)))
+    (λ c. the-search-ends _ _ _ _ _ _ (c .loop-test .left) (c .before .loop .inv .2)))

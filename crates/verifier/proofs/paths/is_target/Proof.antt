@@ -6,9 +6,6 @@ use Rattle.verifier.specs.Targets.{targetsIn}
 use Rattle.verifier.proofs.paths.is_target.Statement.{statement}
 use Rattle.verifier.proofs.paths.is_target.Tie as tie
 
-returns : tie.Need-returns
-unfolding targetsIn bit
-returns c = refl
-
 pub is-target-spec : {M : Type 1} → statement M
-is-target-spec = tie.close (tie.spec (λ c. search needs) (λ c. search needs) (λ c. search needs) returns)
+unfolding targetsIn bit
+is-target-spec = tie.close (tie.spec (λ c. search needs) (λ c. search needs) (λ c. search needs) (λ c. refl))

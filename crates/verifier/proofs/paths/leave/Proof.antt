@@ -6,12 +6,6 @@ use Rattle.verifier.proofs.Targets.{no-jump, an-exit, the-target-is-ins
 use Rattle.verifier.proofs.paths.leave.Statement.{statement}
 use Rattle.verifier.proofs.paths.leave.Tie as tie
 
-returns : tie.Need-returns
-returns c = let start = c .before .before .before .before .before in no-jump _ _ _ _ (sym (c .before .before .before .parts-at .ensures .0)) (start .pre .3) _ (start .pre .4) (c .if1 .taken)
-
-returns-2 : tie.Need-returns-2
-returns-2 c = let start = c .before .before .before .before .before .before .before in an-exit _ _ _ _ (sym (c .before .before .before .before .before .parts-at .ensures .0)) (start .pre .3) _ (start .pre .4) (c .if2 .taken)
-
 add-mark-2 : tie.Need-add-mark-2
 add-mark-2 c =
     let start = c .before .before .before .before .before .before .before .before .before in
@@ -33,12 +27,7 @@ pub leave-spec : {M : Type 1} → statement M
 leave-spec =
     tie.close
     (tie.spec
-    (λ c. search needs)
-    (λ c κs. search needs)
-    returns
-    returns-2
-    (λ c. search needs)
-    (λ c κs. search needs)
-    add-mark-2
-    mark-requires
-    returns-3)
+    (λ c. search needs) (λ c κs. search needs)
+    (λ c. let start = c .before .before .before .before .before in no-jump _ _ _ _ (sym (c .before .before .before .parts-at .ensures .0)) (start .pre .3) _ (start .pre .4) (c .if1 .taken))
+    (λ c. let start = c .before .before .before .before .before .before .before in an-exit _ _ _ _ (sym (c .before .before .before .before .before .parts-at .ensures .0)) (start .pre .3) _ (start .pre .4) (c .if2 .taken))
+    (λ c. search needs) (λ c κs. search needs) add-mark-2 mark-requires returns-3)

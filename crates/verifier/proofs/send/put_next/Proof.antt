@@ -5,13 +5,11 @@ use borrow.Author.Needs.{needs}
 use Rattle.verifier.proofs.send.put_next.Statement.{statement}
 use Rattle.verifier.proofs.send.put_next.Tie as tie
 
-returns : tie.Need-returns
-returns c = what-is-sent-arrives _ _ _ _ _ _ _ (search needs) (c .before .before .arrive-with .ensures)
-
 pub put-next-spec : {M : Type 1} → statement M
 put-next-spec =
     tie.close
     (tie.spec
-    (λ c. search needs) (λ c. search needs) (λ c. search needs) (λ c. search needs) (λ c. search needs)
-    (λ c κs. search needs) (λ c. search needs) (λ c. search needs) returns (λ c. search needs)
+    (λ c. search needs) (λ c. search needs) (λ c. search needs) (λ c. search needs) (λ c. search needs) (λ c κs. search needs)
+    (λ c. search needs) (λ c. search needs)
+    (λ c. what-is-sent-arrives _ _ _ _ _ _ _ (search needs) (c .before .before .arrive-with .ensures)) (λ c. search needs)
     (λ c κs. search needs) (λ c. search needs) (λ c. search needs))

@@ -4,18 +4,9 @@ use Rattle.verifier.proofs.Steps.{what-leads-out-is-refused, what-is-se
 use Rattle.verifier.proofs.send.send.Statement.{statement}
 use Rattle.verifier.proofs.send.send.Tie as tie
 
-returns : tie.Need-returns
-returns c = what-leads-out-is-refused _ _ _ _ _ _ (c .if1 .taken)
-
-returns-2 : tie.Need-returns-2
-returns-2 c = what-is-sent-arrives _ _ _ _ _ _ _ (c .before .before .before .before .if1 .left) (c .before .before .arrive .ensures)
-
 pub send-spec : {M : Type 1} → statement M
 send-spec =
     tie.close
     (tie.spec
-    returns
-    (λ c κs. search needs)
-    (λ c. search needs)
-    (λ c. search needs)
-    returns-2)
+    (λ c. what-leads-out-is-refused _ _ _ _ _ _ (c .if1 .taken)) (λ c κs. search needs) (λ c. search needs) (λ c. search needs)
+    (λ c. what-is-sent-arrives _ _ _ _ _ _ _ (c .before .before .before .before .if1 .left) (c .before .before .arrive .ensures)))

@@ -6,21 +6,11 @@ use Rattle.verifier.proofs.Steps.{going-on-changes-nothing}
 use Rattle.verifier.proofs.send.send_along.Statement.{statement}
 use Rattle.verifier.proofs.send.send_along.Tie as tie
 
-returns : tie.Need-returns
-unfolding send along
-returns c = rw (c .enum-told .given .1) (going-on-changes-nothing _ _ _ _ _ refl)
-
-returns-2 : tie.Need-returns-2
-unfolding along
-returns-2 c = rw (c .before .before .before .before .before .way .given .1) (c .before .before .send-with-both .ensures)
-
 pub send-along-spec : {M : Type 1} → statement M
+unfolding send along
 send-along-spec =
     tie.close
     (tie.spec
-    (λ c. search needs)
-    (λ c. search needs)
-    (λ c κs. search needs)
-    returns
-    (λ c. search needs)
-    returns-2)
+    (λ c. search needs) (λ c. search needs) (λ c κs. search needs)
+    (λ c. rw (c .enum-told .given .1) (going-on-changes-nothing _ _ _ _ _ refl)) (λ c. search needs)
+    (λ c. rw (c .before .before .before .before .before .way .given .1) (c .before .before .send-with-both .ensures)))

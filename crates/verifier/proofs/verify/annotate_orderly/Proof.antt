@@ -7,46 +7,18 @@ use Rattle.verifier.proofs.Answers.{dead-code, too-little-memory, the-v
 use Rattle.verifier.proofs.verify.annotate_orderly.Statement.{statement}
 use Rattle.verifier.proofs.verify.annotate_orderly.Tie as tie
 
-connected-requires : tie.Need-connected-requires
-connected-requires c κs = let start = c .before .before in (rw (start .pre .2) (a-good-length _ (start .pre .0) .1), start .pre .2, start .pre .3)
-
-add-t11 : tie.Need-add-t11
-add-t11 c = omega (arith, unconnected-dead _ _ _ (sym (c .before .before .before .connected .ensures) ∙ c .before .paths .given .1) .1 .inside, a-good-length _ (c .before .before .before .before .before .before .pre .0))
-
-add-t12 : tie.Need-add-t12
-add-t12 c = omega (arith, unconnected-dead _ _ _ (sym (c .before .before .before .connected .ensures) ∙ c .before .paths .given .1) .1 .inside, a-good-length _ (c .before .before .before .before .before .before .pre .0))
-
-mul-if1 : tie.Need-mul-if1
-mul-if1 c = omega (arith, a-good-length _ (c .before .before .before .before .before .pre .0))
-
-mul-t19 : tie.Need-mul-t19
-mul-t19 c = omega (arith, a-good-length _ (c .before .before .before .before .before .before .pre .0))
-
-returns : tie.Need-returns
-returns c = let start = c .before .before .before .before .before .before in too-little-memory _ _ _ _ _ (start .pre .0) (start .pre .1) (start .pre .2) (start .pre .3) (c .before .before .before .connected .ensures) (c .before .enum-told .given .1) (c .if1 .taken)
-
-follow-requires : tie.Need-follow-requires
-follow-requires c κs = let start = c .before .before .before .before .before .before .before in let q = a-good-length _ (start .pre .0) in (omega (arith, q), omega (arith, q), start .pre .2, c .before .if1 .left)
-
-returns-2 : tie.Need-returns-2
-returns-2 c = let start = c .before .before .before .before .before .before in dead-code _ _ _ _ _ (start .pre .0) (start .pre .1) (start .pre .2) (start .pre .3) (c .before .before .before .connected .ensures) _ _ (c .before .paths .given .1)
-
-returns-3 : tie.Need-returns-3
-returns-3 c = let start = c .before .before .before .before .before .before .before .before .before .before in the-values-were-followed _ _ _ _ _ (start .pre .0) (start .pre .1) (start .pre .2) (start .pre .3) (c .before .before .before .before .before .before .before .connected .ensures) _ _ (c .before .before .before .before .before .enum-told .given .1) (c .before .before .before .before .if1 .left) (c .before .before .follow .ensures)
-
 pub annotate-orderly-spec : {M : Type 1} → statement M
 annotate-orderly-spec =
     tie.close
     (tie.spec
-    connected-requires
+    (λ c κs. let start = c .before .before in (rw (start .pre .2) (a-good-length _ (start .pre .0) .1), start .pre .2, start .pre .3))
     (λ c. search needs)
-    add-t11
-    add-t12
+    (λ c. omega (arith, unconnected-dead _ _ _ (sym (c .before .before .before .connected .ensures) ∙ c .before .paths .given .1) .1 .inside, a-good-length _ (c .before .before .before .before .before .before .pre .0)))
+    (λ c. omega (arith, unconnected-dead _ _ _ (sym (c .before .before .before .connected .ensures) ∙ c .before .paths .given .1) .1 .inside, a-good-length _ (c .before .before .before .before .before .before .pre .0)))
+    (λ c. search needs) (λ c. omega (arith, a-good-length _ (c .before .before .before .before .before .pre .0)))
+    (λ c. omega (arith, a-good-length _ (c .before .before .before .before .before .before .pre .0)))
+    (λ c. let start = c .before .before .before .before .before .before in too-little-memory _ _ _ _ _ (start .pre .0) (start .pre .1) (start .pre .2) (start .pre .3) (c .before .before .before .connected .ensures) (c .before .enum-told .given .1) (c .if1 .taken))
+    (λ c κs. let start = c .before .before .before .before .before .before .before in let q = a-good-length _ (start .pre .0) in (omega (arith, q), omega (arith, q), start .pre .2, c .before .if1 .left))
+    (λ c. let start = c .before .before .before .before .before .before in dead-code _ _ _ _ _ (start .pre .0) (start .pre .1) (start .pre .2) (start .pre .3) (c .before .before .before .connected .ensures) _ _ (c .before .paths .given .1))
     (λ c. search needs)
-    mul-if1
-    mul-t19
-    returns
-    follow-requires
-    returns-2
-    (λ c. search needs)
-    returns-3)
+    (λ c. let start = c .before .before .before .before .before .before .before .before .before .before in the-values-were-followed _ _ _ _ _ (start .pre .0) (start .pre .1) (start .pre .2) (start .pre .3) (c .before .before .before .before .before .before .before .connected .ensures) _ _ (c .before .before .before .before .before .enum-told .given .1) (c .before .before .before .before .if1 .left) (c .before .before .follow .ensures)))

@@ -4,8 +4,9 @@ use Rattle.verifier.proofs.Promise.{the-answer-promises}
 use Rattle.verifier.proofs.verify.verify.Statement.{statement}
 use Rattle.verifier.proofs.verify.verify.Tie as tie
 
-returns : tie.Need-returns
-returns c = (c .before .before .annotate .ensures .0, the-answer-promises _ _ _ _ (c .before .before .annotate .ensures .0))
-
 pub verify-spec : {M : Type 1} → statement M
-verify-spec = tie.close (tie.spec (λ c κs. search needs) (λ c. search needs) returns)
+verify-spec =
+    tie.close
+    (tie.spec
+    (λ c κs. search needs) (λ c. search needs)
+    (λ c. (c .before .before .annotate .ensures .0, the-answer-promises _ _ _ _ (c .before .before .annotate .ensures .0))))

@@ -4,13 +4,10 @@ use Rattle.machine.specs.Machine.{bits}
 use Rattle.verifier.proofs.ways.is_taken.Statement.{statement}
 use Rattle.verifier.proofs.ways.is_taken.Tie as tie
 
-returns : tie.Need-returns
-unfolding bits
-returns c = rw (c .before .enum-told .given .1) (c .compare64 .ensures)
-
-returns-2 : tie.Need-returns-2
-unfolding bits
-returns-2 c = rw (c .before .enum-told2 .given .1) (c .compare32 .ensures)
-
 pub is-taken-spec : {M : Type 1} → statement M
-is-taken-spec = tie.close (tie.spec (λ c. search needs) (λ c κs. search needs) (λ c. search needs) (λ c κs. search needs) returns returns-2)
+unfolding bits
+is-taken-spec =
+    tie.close
+    (tie.spec
+    (λ c. search needs) (λ c κs. search needs) (λ c. search needs) (λ c κs. search needs)
+    (λ c. rw (c .before .enum-told .given .1) (c .compare64 .ensures)) (λ c. rw (c .before .enum-told2 .given .1) (c .compare32 .ensures)))

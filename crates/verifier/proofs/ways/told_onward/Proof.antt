@@ -6,13 +6,10 @@ use Rattle.analysis.specs.Effects.{told}
 use Rattle.verifier.proofs.ways.told_onward.Statement.{statement}
 use Rattle.verifier.proofs.ways.told_onward.Tie as tie
 
-returns : tie.Need-returns
-unfolding told refined refined32
-returns c = rw (c .before .enum-told .given .1) (c .not-taken .ensures)
-
-returns-2 : tie.Need-returns-2
-unfolding told refined refined32
-returns-2 c = rw (c .before .enum-told2 .given .1) (c .not-taken32 .ensures)
-
 pub told-onward-spec : {M : Type 1} → statement M
-told-onward-spec = tie.close (tie.spec (λ c. search needs) (λ c κs. search needs) (λ c. search needs) (λ c κs. search needs) returns returns-2)
+unfolding told refined refined32
+told-onward-spec =
+    tie.close
+    (tie.spec
+    (λ c. search needs) (λ c κs. search needs) (λ c. search needs) (λ c κs. search needs)
+    (λ c. rw (c .before .enum-told .given .1) (c .not-taken .ensures)) (λ c. rw (c .before .enum-told2 .given .1) (c .not-taken32 .ensures)))

@@ -6,13 +6,10 @@ use Rattle.analysis.specs.Effects.{told}
 use Rattle.verifier.proofs.ways.told_there.Statement.{statement}
 use Rattle.verifier.proofs.ways.told_there.Tie as tie
 
-returns : tie.Need-returns
-unfolding told refined refined32
-returns c = rw (c .before .enum-told .given .1) (c .taken .ensures)
-
-returns-2 : tie.Need-returns-2
-unfolding told refined refined32
-returns-2 c = rw (c .before .enum-told2 .given .1) (c .taken32 .ensures)
-
 pub told-there-spec : {M : Type 1} → statement M
-told-there-spec = tie.close (tie.spec (λ c. search needs) (λ c κs. search needs) (λ c. search needs) (λ c κs. search needs) returns returns-2)
+unfolding told refined refined32
+told-there-spec =
+    tie.close
+    (tie.spec
+    (λ c. search needs) (λ c κs. search needs) (λ c. search needs) (λ c κs. search needs)
+    (λ c. rw (c .before .enum-told .given .1) (c .taken .ensures)) (λ c. rw (c .before .enum-told2 .given .1) (c .taken32 .ensures)))

@@ -12,33 +12,11 @@ Inv-loop m₀ from to k₀ m k = Copying m₀ m from to k
 abbrev μ-loop : tie.MeasureT-loop
 μ-loop m₀ from to k₀ m k = stateWords - k
 
-loop-holds : tie.Need-loop-holds Inv-loop μ-loop
-loop-holds c = none-is-copied _ _ _
-
-loop-again : tie.Need-loop-again Inv-loop μ-loop
-loop-again c = one-more-is-copied _ _ _ _ _ (c .before .before .before .pre .0) (c .before .before .before .pre .1) (c .before .loop-test .taken) (c .before .before .loop .inv)
-
-same-length : tie.Need-same-length Inv-loop μ-loop
-same-length c = c .before .loop .inv .size
-
-returns : tie.Need-returns Inv-loop μ-loop
-returns c = a-state-is-copied _ _ _ _ (c .before .loop .k) (c .loop-test .left) (c .before .loop .inv)
-
 pub copy-state-spec : {M : Type 1} → statement M
 copy-state-spec =
     tie.close
     (tie.spec
-    Inv-loop
-    μ-loop
-    loop-holds
-    (λ c. omega arith)
-    (λ c. omega arith)
-    (λ c. omega arith)
-    (λ c. omega arith)
-    (λ c. omega arith)
-    (λ c. omega arith)
-    (λ c. omega arith)
-    (λ c. omega arith)
-    loop-again
-    same-length
-    returns)
+    Inv-loop μ-loop (λ c. none-is-copied _ _ _) (λ c. omega arith) (λ c. omega arith) (λ c. omega arith) (λ c. omega arith)
+    (λ c. omega arith) (λ c. omega arith) (λ c. omega arith) (λ c. omega arith)
+    (λ c. one-more-is-copied _ _ _ _ _ (c .before .before .before .pre .0) (c .before .before .before .pre .1) (c .before .loop-test .taken) (c .before .before .loop .inv))
+    (λ c. c .before .loop .inv .size) (λ c. a-state-is-copied _ _ _ _ (c .before .loop .k) (c .loop-test .left) (c .before .loop .inv)))

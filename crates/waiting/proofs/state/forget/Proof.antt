@@ -15,35 +15,17 @@ Inv-loop m₀ at r₀ m r = Storing m₀ m at (nothingKnown .registers) r
 abbrev μ-loop : tie.MeasureT-loop
 μ-loop m₀ at r₀ m r = 11 - r
 
-loop-holds : tie.Need-loop-holds Inv-loop μ-loop
-loop-holds c = none-is-stored _ _ _
-
 loop-again : tie.Need-loop-again Inv-loop μ-loop
 unfolding heldIn ofKind
 loop-again c =
     let head = c .before .before .before .before .before .before in
     one-more-is-stored _ _ _ _ _ _ _ (c .before .before .before .before .before .loop-test .taken) (never-known _) (head .loop .inv) (what-is-written-is-held _ _ _ _ _ (c .before .before .write-held .ensures) refl)
 
-same-length : tie.Need-same-length Inv-loop μ-loop
-same-length c = c .before .loop .inv .size
-
-returns : tie.Need-returns Inv-loop μ-loop
-unfolding nothingKnown
-returns c = all-is-stored _ _ _ _ (c .before .loop .r) refl (c .loop-test .left) (c .before .loop .inv)
-
 pub forget-spec : {M : Type 1} → statement M
+unfolding nothingKnown
 forget-spec =
     tie.close
     (tie.spec
-    Inv-loop
-    μ-loop
-    loop-holds
-    (λ c. omega arith)
-    (λ c. omega arith)
-    (λ c κs. search needs)
-    (λ c κs. omega arith)
-    (λ c. omega arith)
-    (λ c. omega arith)
-    loop-again
-    same-length
-    returns)
+    Inv-loop μ-loop (λ c. none-is-stored _ _ _) (λ c. omega arith) (λ c. omega arith) (λ c κs. search needs) (λ c κs. omega arith)
+    (λ c. omega arith) (λ c. omega arith) loop-again (λ c. c .before .loop .inv .size)
+    (λ c. all-is-stored _ _ _ _ (c .before .loop .r) refl (c .loop-test .left) (c .before .loop .inv)))

@@ -12,37 +12,16 @@ Inv-loop m₀ from to r₀ m r = Storing m₀ m to (joinedState m₀ from to .re
 abbrev μ-loop : tie.MeasureT-loop
 μ-loop m₀ from to r₀ m r = 11 - r
 
-loop-holds : tie.Need-loop-holds Inv-loop μ-loop
-loop-holds c = none-is-stored _ _ _
-
-join-register-requires : tie.Need-join-register-requires Inv-loop μ-loop
-join-register-requires c κs = let size = c .before .before .loop .inv .size in (omega arith, omega arith)
-
 loop-again : tie.Need-loop-again Inv-loop μ-loop
 loop-again c =
     let start = c .before .before .before .before .before .before .before in
     a-register-is-joined _ _ _ _ _ _ (start .pre .0) (c .before .before .before .before .loop-test .taken) (c .before .before .before .before .before .loop .inv) (c .before .before .join-register .ensures)
 
-same-length : tie.Need-same-length Inv-loop μ-loop
-same-length c = c .before .loop .inv .size
-
-returns : tie.Need-returns Inv-loop μ-loop
-returns c = all-is-stored _ _ _ _ (c .before .loop .r) (a-join-keeps-the-length _ _ _) (c .loop-test .left) (c .before .loop .inv)
-
 pub join-state-spec : {M : Type 1} → statement M
 join-state-spec =
     tie.close
     (tie.spec
-    Inv-loop
-    μ-loop
-    loop-holds
-    (λ c. omega arith)
-    (λ c. omega arith)
-    (λ c. omega arith)
-    (λ c. omega arith)
-    join-register-requires
-    (λ c. omega arith)
-    (λ c. omega arith)
-    loop-again
-    same-length
-    returns)
+    Inv-loop μ-loop (λ c. none-is-stored _ _ _) (λ c. omega arith) (λ c. omega arith) (λ c. omega arith) (λ c. omega arith)
+    (λ c κs. let size = c .before .before .loop .inv .size in (omega arith, omega arith)) (λ c. omega arith) (λ c. omega arith) loop-again
+    (λ c. c .before .loop .inv .size)
+    (λ c. all-is-stored _ _ _ _ (c .before .loop .r) (a-join-keeps-the-length _ _ _) (c .loop-test .left) (c .before .loop .inv)))

@@ -7,20 +7,11 @@ use Rattle.waiting.proofs.States.{register-in-range, register-out-of-ra
 use Rattle.waiting.proofs.state.register.Statement.{statement}
 use Rattle.waiting.proofs.state.register.Tie as tie
 
-returns : tie.Need-returns
-unfolding heldIn ofKind
-returns c = (sym (register-out-of-range _ _ _ (c .before .if1 .taken)), λ l. absurd (omega arith))
-
-returns-2 : tie.Need-returns-2
-returns-2 c = (ap heldIn (c .held-at .ensures) ∙ sym (register-in-range _ _ _ (c .before .if1 .left)), λ l. c .held-at .ensures)
-
 pub register-spec : {M : Type 1} → statement M
+unfolding heldIn ofKind
 register-spec =
     tie.close
     (tie.spec
-    (λ c κs. search needs)
-    returns
-    (λ c. search needs)
-    (λ c. search needs)
-    (λ c κs. search needs)
-    returns-2)
+    (λ c κs. search needs) (λ c. (sym (register-out-of-range _ _ _ (c .before .if1 .taken)), λ l. absurd (omega arith))) (λ c. search needs)
+    (λ c. search needs) (λ c κs. search needs)
+    (λ c. (ap heldIn (c .held-at .ensures) ∙ sym (register-in-range _ _ _ (c .before .if1 .left)), λ l. c .held-at .ensures)))

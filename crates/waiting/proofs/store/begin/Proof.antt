@@ -15,5 +15,4 @@ returns c =
     the-start-waits _ _ _ _ (start .pre .0) (start .pre .1) (c .before .before .before .before .before .before .clear .ensures) (c .before .before .write-start .ensures)
 
 pub begin-spec : {M : Type 1} → statement M
-begin-spec =
-    tie.close (tie.spec (λ c κs. search needs) (λ c κs. search needs) (λ c. search needs) same-length returns)
+begin-spec = tie.close (tie.spec (λ c κs. search needs) (λ c κs. search needs) (λ c. search needs) same-length returns)

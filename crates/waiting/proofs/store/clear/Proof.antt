@@ -14,30 +14,11 @@ Inv-loop m₀ n j₀ m j = (j ≤ n) × (length m ≡ length m₀) × ((x : ℕ)
 abbrev μ-loop : tie.MeasureT-loop
 μ-loop m₀ n j₀ m j = n - j
 
-loop-holds : tie.Need-loop-holds Inv-loop μ-loop
-loop-holds c = (omega arith, refl, λ x h. absurd (omega arith))
-
-loop-again : tie.Need-loop-again Inv-loop μ-loop
-loop-again c = (omega arith, length-set (c .before .loop .m) (blockWords * c .before .loop .j) 0 ∙ c .before .loop .inv .1, one-more-is-cleared (c .before .loop .m) (c .before .loop .j) (omega arith) (c .before .loop .inv .2))
-
-same-length : tie.Need-same-length Inv-loop μ-loop
-same-length c = c .before .loop .inv .1
-
-returns : tie.Need-returns Inv-loop μ-loop
-returns c = all-is-cleared _ _ _ (c .before .loop .inv .1) (λ x h. c .before .loop .inv .2 x (omega arith))
-
 pub clear-spec : {M : Type 1} → statement M
 clear-spec =
     tie.close
     (tie.spec
-    Inv-loop
-    μ-loop
-    loop-holds
-    (λ c. omega arith)
-    (λ c. omega arith)
-    (λ c. omega arith)
-    (λ c. omega arith)
-    (λ c. omega arith)
-    loop-again
-    same-length
-    returns)
+    Inv-loop μ-loop (λ c. (omega arith, refl, λ x h. absurd (omega arith))) (λ c. omega arith) (λ c. omega arith) (λ c. omega arith)
+    (λ c. omega arith) (λ c. omega arith)
+    (λ c. (omega arith, length-set (c .before .loop .m) (blockWords * c .before .loop .j) 0 ∙ c .before .loop .inv .1, one-more-is-cleared (c .before .loop .m) (c .before .loop .j) (omega arith) (c .before .loop .inv .2)))
+    (λ c. c .before .loop .inv .1) (λ c. all-is-cleared _ _ _ (c .before .loop .inv .1) (λ x h. c .before .loop .inv .2 x (omega arith))))

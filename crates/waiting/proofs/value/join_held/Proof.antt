@@ -5,19 +5,10 @@ use Rattle.waiting.proofs.ByKind.{joined-with-no-number, joined-with-a-
 use Rattle.waiting.proofs.value.join_held.Statement.{statement}
 use Rattle.waiting.proofs.value.join_held.Tie as tie
 
-returns : tie.Need-returns
-unfolding heldIn
-returns c = joined-with-no-number _ _ _ _ _ _ (c .before .joined-kind .ensures) (c .if1 .taken)
-
-returns-2 : tie.Need-returns-2
-unfolding heldIn
-returns-2 c = joined-with-a-number _ _ _ _ _ _ (c .before .before .joined-kind .ensures) (c .join .ensures)
-
 pub join-held-spec : {M : Type 1} → statement M
+unfolding heldIn
 join-held-spec =
     tie.close
     (tie.spec
-    (λ c κs. search needs)
-    returns
-    (λ c κs. search needs)
-    returns-2)
+    (λ c κs. search needs) (λ c. joined-with-no-number _ _ _ _ _ _ (c .before .joined-kind .ensures) (c .if1 .taken)) (λ c κs. search needs)
+    (λ c. joined-with-a-number _ _ _ _ _ _ (c .before .before .joined-kind .ensures) (c .join .ensures)))

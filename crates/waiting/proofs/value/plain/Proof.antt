@@ -4,12 +4,6 @@ use Rattle.waiting.specs.State.{heldIn, ofKind}
 use Rattle.waiting.proofs.value.plain.Statement.{statement}
 use Rattle.waiting.proofs.value.plain.Tie as tie
 
-returns : tie.Need-returns
-unfolding heldIn ofKind
-returns c = refl
-
 pub plain-spec : {M : Type 1} → statement M
-plain-spec =
-    tie.close
-    (tie.spec
-    returns)
+unfolding heldIn ofKind
+plain-spec = tie.close (tie.spec (λ c. refl))
