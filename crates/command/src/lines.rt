@@ -2,6 +2,7 @@
 ghost use Prim.Native.Nat.{_+_, _≤_};
 ghost use lib.ListN.{length};
 use analysis::Finding;
+use explain::joins::note_ways;
 use explain::line::explain_line;
 use listing::line::show_line;
 use terminal::answer::conclude;
@@ -43,31 +44,45 @@ fn explain_at(
     program: &[u8],
     rlen: u64,
     scratch: &[u64],
+    ways: &[u8],
     finding: Finding,
     i: usize,
     out: &mut [u8],
 ) -> bool {
-    let n = explain_line(program, rlen, scratch, finding, i, out);
+    let n = explain_line(program, rlen, scratch, ways, finding, i, out);
     say(1, out, n)
 }
 
 // The listing with what is known at each index. What could not be written is said when the answer is.
-fn explain_lines(program: &[u8], rlen: u64, scratch: &[u64], finding: Finding, out: &mut [u8]) {
+fn explain_lines(
+    program: &[u8],
+    rlen: u64,
+    scratch: &[u64],
+    ways: &[u8],
+    finding: Finding,
+    out: &mut [u8],
+) {
     let count = lines_of(program);
     let mut i = 0;
     while i < count {
-        if !explain_at(program, rlen, scratch, finding, i, out) {
+        if !explain_at(program, rlen, scratch, ways, finding, i, out) {
             return;
         }
         i += 1;
     }
 }
 
+fn explain_found(program: &[u8], rlen: u64, scratch: &[u64], finding: Finding, out: &mut [u8]) {
+    let mut ways = [0u8; 4096];
+    note_ways(program, rlen, scratch, &mut ways);
+    explain_lines(program, rlen, scratch, &ways, finding, out)
+}
+
 fn explain_answer(program: &[u8], rlen: u64, scratch: &[u64], answer: Answer, out: &mut [u8]) {
     match answer {
         Answer::Judgement(judged) => {
             let finding = judged.finding;
-            explain_lines(program, rlen, scratch, finding, out)
+            explain_found(program, rlen, scratch, finding, out)
         }
         Answer::ScratchTooSmall { words: _ } => {}
     }

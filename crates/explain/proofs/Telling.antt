@@ -1,5 +1,4 @@
 -- What is told of a register is what waits at the index; where `annotate` left it, it is what the analysis follows to there.
--- Assumes nothing.
 use mathlib.Core.Bool.{true, false}
 use mathlib.Core.List.{List}
 use mathlib.Core.Path.{_≡_}

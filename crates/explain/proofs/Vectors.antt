@@ -1,5 +1,4 @@
 -- What is told of the registers at the start of a program, and where no path comes.
--- Assumes nothing.
 use mathlib.Core.Option.{none, some}
 use mathlib.Core.Path.{_≡_, refl}
 use Rattle.text.specs.Buffer.{chars, lastDigits, decimal}

@@ -1,5 +1,4 @@
 -- What is known of a register at an index, as text.
--- Assumes nothing.
 use mathlib.Core.List.{List}
 use mathlib.Core.Option.{Option}
 use Prim.Native.Nat.{ℕ, _≤_, max}

@@ -1,5 +1,4 @@
 -- The registers that an instruction reads, as a list.
--- Assumes nothing.
 use mathlib.Core.List.{List, [], _∷_}
 use Prim.Native.Nat.{ℕ}
 use Rattle.explain.specs.declared.reads.Reads.{Reads}

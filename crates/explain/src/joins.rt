@@ -1,124 +1,128 @@
-// Where ways through a program come together.
-// Assumes nothing.
+// Where ways through a program come together: one pass over it notes how many ways lead to each index.
 ghost use Prim.Native.Nat.{_≤_, _<_};
-use crate::page::instruction_at;
 use analysis::Effect;
-use machine::instruction::Instruction;
 use number::Refined;
 use verifier::inspect::Deed;
 use verifier::inspect::effect_at;
-use word::arithmetic64::add64;
 
-// One way, if it leads there.
-fn one(leads: bool) -> u64
-    ensures { λ r. ⌜ r ≤ 1 ⌝ }
-{
-    if leads {
-        return 1;
-    }
-    0
+// Whether an instruction leads on to the next index, and whether to a target.
+struct Leads {
+    onward: bool,
+    there: bool,
+    target: u64,
 }
 
-fn one_if_possible(refined: Refined, leads: bool) -> u64
-    ensures { λ r. ⌜ r ≤ 1 ⌝ }
-{
+fn is_possible(refined: Refined) -> bool {
     match refined {
-        Refined::Excluded => 0,
-        Refined::Possible(_, _) => one(leads),
+        Refined::Excluded => false,
+        Refined::Possible(_, _) => true,
     }
 }
 
-// How many ways lead from j to i, by what the instruction at j does; `next` says that i follows j.
-fn ways(effect: Effect, next: bool, i: u64) -> u64
-    ensures { λ r. ⌜ r ≤ 2 ⌝ }
-{
+fn to_next(onward: bool) -> Leads {
+    Leads {
+        onward,
+        there: false,
+        target: 0,
+    }
+}
+
+fn leads_by(effect: Effect) -> Leads {
     match effect {
-        Effect::Refuse(_) => 0,
-        Effect::Put { dst: _, value: _ } => one(next),
-        Effect::Keep => one(next),
+        Effect::Refuse(_) => to_next(false),
+        Effect::Put { dst: _, value: _ } => to_next(true),
+        Effect::Keep => to_next(true),
         Effect::Fork {
             dst: _,
             operand: _,
             onward,
             taken,
             target,
-        } => one_if_possible(onward, next) + one_if_possible(taken, target == i),
-        Effect::Goto { target } => one(target == i),
-        Effect::Stop => 0,
+        } => Leads {
+            onward: is_possible(onward),
+            there: is_possible(taken),
+            target,
+        },
+        Effect::Goto { target } => Leads {
+            onward: false,
+            there: true,
+            target,
+        },
+        Effect::Stop => to_next(false),
     }
 }
 
-// Whether a jump at j leads to i. What is known at j is looked at only where it does, or where i follows j.
-fn jumps_to(program: &[u8], j: usize, i: usize) -> bool {
-    let instruction = instruction_at(program, j);
-    match instruction {
-        Instruction::Jump {
-            width: _,
-            comparison: _,
-            dst: _,
-            operand: _,
-            off,
-        } => add64(add64(j as u64, 1), off) == i as u64,
-        Instruction::Always { off } => add64(add64(j as u64, 1), off) == i as u64,
-        Instruction::Alu {
-            width: _,
-            operation: _,
-            dst: _,
-            operand: _,
-        } => false,
-        Instruction::Neg { width: _, dst: _ } => false,
-        Instruction::Exit => false,
-        Instruction::Load {
-            size: _,
-            dst: _,
-            src: _,
-            off: _,
-        } => false,
-        Instruction::Store {
-            size: _,
-            dst: _,
-            off: _,
-            operand: _,
-        } => false,
-        Instruction::NoInstruction => false,
-    }
-}
-
-fn ways_between(program: &[u8], record_len: u64, scratch: &[u64], j: usize, i: usize) -> u64
-    requires { ⌜ j < i ⌝ }
-    ensures { λ r. ⌜ r ≤ 2 ⌝ }
-{
-    let next = i - j == 1;
-    if !next {
-        if !jumps_to(program, j, i) {
-            return 0;
-        }
-    }
-    let deed = effect_at(program, record_len, scratch, j);
+// Only the ways that the analysis follows.
+fn leads_from(deed: Deed) -> Leads {
     match deed {
-        Deed::Nothing => 0,
-        Deed::Does(effect) => ways(effect, next, i as u64),
+        Deed::Nothing => to_next(false),
+        Deed::Does(effect) => leads_by(effect),
     }
 }
 
-// The sum, of which only 0, 1 and more matter.
-fn more(a: u64, b: u64) -> u64
-    requires { ⌜ (a ≤ 2) × (b ≤ 2) ⌝ }
-    ensures { λ r. ⌜ r ≤ 2 ⌝ }
-{
-    if a + b < 2 {
-        return a + b;
+// Of the number of ways only 0, 1 and more matter.
+fn more(w: u8) -> u8 {
+    if w == 0 {
+        return 1;
     }
     2
 }
 
-// Whether more than one way that the analysis follows leads to index i.
-pub fn is_joined(program: &[u8], record_len: u64, scratch: &[u64], i: usize) -> bool {
-    let mut count: u64 = 0;
+// One more way from j to i, which lies behind j.
+fn note(ways: &mut [u8], j: usize, i: u64) {
+    if i <= j as u64 {
+        return;
+    }
+    if ways.len() as u64 <= i {
+        return;
+    }
+    let k = i as usize;
+    ways[k] = more(ways[k]);
+}
+
+fn note_if(ways: &mut [u8], leads: bool, j: usize, i: u64) {
+    if leads {
+        note(ways, j, i);
+    }
+}
+
+fn note_from(program: &[u8], record_len: u64, scratch: &[u64], j: usize, ways: &mut [u8])
+    requires { ⌜ j < 4096 ⌝ }
+{
+    let deed = effect_at(program, record_len, scratch, j);
+    let leads = leads_from(deed);
+    note_if(ways, leads.onward, j, j as u64 + 1);
+    note_if(ways, leads.there, j, leads.target);
+}
+
+// No more indices than a program may have.
+fn indices(program: &[u8]) -> usize
+    ensures { λ r. ⌜ r ≤ 4096 ⌝ }
+{
+    if 4096 < program.len() / 8 {
+        return 4096;
+    }
+    program.len() / 8
+}
+
+// Notes in `ways`, of which all are 0 before, how many ways that the analysis follows lead to each index. `scratch` is what `annotate`
+// left on this program and record length.
+pub fn note_ways(program: &[u8], record_len: u64, scratch: &[u64], ways: &mut [u8]) {
+    let n = indices(program);
     let mut j = 0;
-    while j < i {
-        count = more(count, ways_between(program, record_len, scratch, j, i));
+    while j < n {
+        note_from(program, record_len, scratch, j, ways);
         j += 1;
     }
-    count == 2
+}
+
+// 1 where more than one way leads to index i, and else 0.
+pub fn joined(ways: &[u8], i: usize) -> u64 {
+    if ways.len() <= i {
+        return 0;
+    }
+    if ways[i] < 2 {
+        return 0;
+    }
+    1
 }

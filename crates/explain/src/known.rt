@@ -1,5 +1,4 @@
 // What is known of a register at an index, as text: of the state that `annotate` left there.
-// Assumes nothing.
 ghost use Rattle.text.specs.Buffer.{Put};
 ghost use Rattle.explain.specs.Known.{toldText, PutKnown};
 use listing::value::put_value;
@@ -7,7 +6,7 @@ use text::buffer::put_text;
 use verifier::inspect::Known;
 use verifier::inspect::register_at;
 
-fn put_told(out: &mut [u8], at: usize, known: Known) -> usize
+pub fn put_told(out: &mut [u8], at: usize, known: Known) -> usize
     ensures { λ r. ⌜ Put (now (out .entry)) at (toldText known) (now (out .exit)) r ⌝ }
 {
     match known {

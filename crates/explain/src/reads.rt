@@ -1,7 +1,7 @@
 // Which registers an instruction reads.
-// Assumes nothing.
 ghost use mathlib.Core.Path.{_≡_};
 ghost use mathlib.Core.List.{_∷_, _++_};
+ghost use Prim.Native.Nat.{_≤_};
 ghost use Rattle.machine.specs.Instruction.{readsOperand, readsDst};
 ghost use Rattle.machine.specs.Instruction as defined;
 ghost use Rattle.explain.specs.Reads.{registers};
@@ -13,6 +13,33 @@ pub enum Reads {
     Nobody,
     One(u64),
     Both(u64, u64),
+}
+
+pub fn count(reads: Reads) -> u64
+    ensures { λ r. ⌜ r ≤ 2 ⌝ }
+{
+    match reads {
+        Reads::Nobody => 0,
+        Reads::One(_) => 1,
+        Reads::Both(_, _) => 2,
+    }
+}
+
+pub fn first(reads: Reads) -> u64 {
+    match reads {
+        Reads::Nobody => 0,
+        Reads::One(r) => r,
+        Reads::Both(r, _) => r,
+    }
+}
+
+// The second where there are two, and else the first.
+pub fn last(reads: Reads) -> u64 {
+    match reads {
+        Reads::Nobody => 0,
+        Reads::One(r) => r,
+        Reads::Both(_, s) => s,
+    }
 }
 
 fn of_operand(operand: Operand) -> Reads

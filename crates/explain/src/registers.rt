@@ -1,20 +1,65 @@
 // Registers by name, with what is known of them.
-// Assumes nothing.
 ghost use Prim.Native.Nat.{_≤_};
 ghost use lib.ListN.{length};
+use crate::effect::write_name;
 use crate::known::put_known;
 use crate::reads::Reads;
-use listing::instruction::write_register;
-use text::page::write_text;
+use crate::reads::count;
+use crate::reads::first;
+use crate::reads::last;
+use text::table::write_entry;
 
-// A register's name and what is known of it.
-pub fn write_known(out: &mut [u8], at: usize, scratch: &[u64], n: usize, i: usize, r: u64) -> usize
+// How many registers an instruction reads, one that it reads twice counted once.
+fn different(reads: Reads) -> u64
+    ensures { λ r. ⌜ r ≤ 2 ⌝ }
+{
+    let n = count(reads);
+    if n < 2 {
+        return n;
+    }
+    if first(reads) == last(reads) {
+        return 1;
+    }
+    n
+}
+
+fn register(reads: Reads, k: u64) -> u64 {
+    if k == 0 {
+        return first(reads);
+    }
+    last(reads)
+}
+
+// Register r, the k-th that is told, and what is known of it.
+fn write_known(
+    out: &mut [u8],
+    at: usize,
+    scratch: &[u64],
+    n: usize,
+    i: usize,
+    k: u64,
+    r: u64,
+) -> usize
     requires { ⌜ at ≤ length (now out) ⌝ }
     ensures { λ e. ⌜ (at ≤ e) × (e ≤ length (now (out .entry))) ⌝ }
 {
-    let a = write_register(out, at, b'r', r);
-    let b = write_text(out, a, b": ");
-    put_known(scratch, n, i, r, out, b)
+    let a = write_name(out, at, k, r);
+    put_known(scratch, n, i, r, out, a)
+}
+
+// A space, after what is told of registers.
+fn write_space(out: &mut [u8], at: usize, told: u64) -> usize
+    requires { ⌜ at ≤ length (now out) ⌝ }
+    ensures { λ e. ⌜ (at ≤ e) × (e ≤ length (now (out .entry))) ⌝ }
+{
+    write_entry(
+        out,
+        at,
+        b"\n\
+        \x20\n\
+        \x20\n",
+        told,
+    )
 }
 
 // The registers that an instruction reads, and a space after them.
@@ -29,21 +74,12 @@ pub fn write_reads(
     requires { ⌜ at ≤ length (now out) ⌝ }
     ensures { λ e. ⌜ (at ≤ e) × (e ≤ length (now (out .entry))) ⌝ }
 {
-    match reads {
-        Reads::Nobody => at,
-        Reads::One(r) => {
-            let a = write_known(out, at, scratch, n, i, r);
-            write_text(out, a, b" ")
-        }
-        Reads::Both(r, s) => {
-            if r == s {
-                let a = write_known(out, at, scratch, n, i, r);
-                return write_text(out, a, b" ");
-            }
-            let a = write_known(out, at, scratch, n, i, r);
-            let b = write_text(out, a, b", ");
-            let c = write_known(out, b, scratch, n, i, s);
-            write_text(out, c, b" ")
-        }
+    let told = different(reads);
+    let mut o = at;
+    let mut k: u64 = 0;
+    while k < told {
+        o = write_known(out, o, scratch, n, i, k, register(reads, k));
+        k += 1;
     }
+    write_space(out, o, told)
 }

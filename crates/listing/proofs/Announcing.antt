@@ -1,5 +1,4 @@
 -- When a text that may be cut says so.
--- Assumes nothing.
 use mathlib.Core.List.{List, [], _++_, append-assoc}
 use mathlib.Core.Path.{_≡_, ap, _∙_}
 use Prim.Native.Nat.{ℕ, _+_, _-_, _≤_, _<_}

@@ -1,5 +1,4 @@
 -- The text of a value computed on examples.
--- Assumes nothing.
 use mathlib.Core.Path.{_≡_, refl}
 use Prim.Native.Nat.{ℕ}
 use lib.Count.{leadingZeros}

@@ -1,5 +1,4 @@
 -- Words of 64 bits as the signed numbers that they stand for.
--- Assumes nothing.
 use mathlib.Core.Bool.{cond}
 use mathlib.Core.List.{List, _∷_}
 use Prim.Native.Nat.{ℕ, _-_, _^_}

@@ -7,10 +7,10 @@ use Rattle.command.proofs.lines.explain_lines.Statement.{statement}
 use Rattle.command.proofs.lines.explain_lines.Tie as tie
 
 abbrev Inv-loop : tie.InvT-loop
-Inv-loop program rlen scratch finding out₀ count i₀ out i = (i ≤ count) × (length out ≡ length out₀)
+Inv-loop program rlen scratch ways finding out₀ count i₀ out i = (i ≤ count) × (length out ≡ length out₀)
 
 abbrev μ-loop : tie.MeasureT-loop
-μ-loop program rlen scratch finding out₀ count i₀ out i = count - i
+μ-loop program rlen scratch ways finding out₀ count i₀ out i = count - i
 
 pub explain-lines-spec : {M : Type 1} → statement M
 explain-lines-spec =

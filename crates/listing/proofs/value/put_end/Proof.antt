@@ -1,5 +1,4 @@
 -- `put_end` goes by the same cases as its definition.
--- Assumes nothing.
 use borrow.Author.Needs.{needs}
 use borrow.Author.Tests.{eq-eqb, ne-eqb}
 use Rattle.text.proofs.Puts.{put-none, put-both}
@@ -7,16 +6,11 @@ use Rattle.listing.specs.ValueText.{endText}
 use Rattle.listing.proofs.value.put_end.Statement.{statement}
 use Rattle.listing.proofs.value.put_end.Tie as tie
 
-returns : tie.Need-returns
-unfolding endText
-returns c = rw (eq-eqb _ _ (c .if1 .taken)) (put-none _ _)
-
-returns-2 : tie.Need-returns-2
-unfolding endText
-returns-2 c = rw (ne-eqb _ _ (c .before .before .before .before .before .before .before .before .before .if1 .left)) (put-both (c .before .before .before .before .before .before .put-text .ensures) (c .before .before .put-decimal .ensures))
-
 pub put-end-spec : {M : Type 1} → statement M
+unfolding endText
 put-end-spec =
     tie.close
     (tie.spec
-    returns (λ c. search needs) (λ c κs. search needs) (λ c κs. search needs) (λ c. search needs) returns-2)
+    (λ c. rw (eq-eqb _ _ (c .if1 .taken)) (put-none _ _)) (λ c. search needs) (λ c κs. search needs) (λ c κs. search needs)
+    (λ c. search needs)
+    (λ c. rw (ne-eqb _ _ (c .before .before .before .before .before .before .before .before .before .if1 .left)) (put-both (c .before .before .before .before .before .before .put-text .ensures) (c .before .before .put-decimal .ensures))))

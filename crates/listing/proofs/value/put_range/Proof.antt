@@ -1,5 +1,4 @@
 -- `put_range` goes by the same cases as its definition.
--- Assumes nothing.
 use mathlib.Core.Path.{sym, _∙_}
 use borrow.Author.Needs.{needs}
 use Rattle.text.proofs.Puts.{put-both}
@@ -7,16 +6,12 @@ use Rattle.listing.specs.ValueText.{rangeText}
 use Rattle.listing.proofs.value.put_range.Statement.{statement}
 use Rattle.listing.proofs.value.put_range.Tie as tie
 
-returns : tie.Need-returns
-unfolding rangeText
-returns c = rw (sym (c .before .before .before .before .before .before .is-everything .ensures) ∙ c .before .before .before .before .before .if1 .taken) (c .before .before .put-text .ensures)
-
-returns-2 : tie.Need-returns-2
-unfolding rangeText
-returns-2 c = rw (sym (c .before .before .before .before .before .before .before .before .before .before .before .before .before .is-everything .ensures) ∙ c .before .before .before .before .before .before .before .before .before .before .before .before .if1 .left) (put-both (put-both (c .before .before .before .before .before .before .before .before .before .before .put-decimal .ensures) (c .before .before .before .before .before .before .put-end .ensures)) (c .before .before .put-aside .ensures))
-
 pub put-range-spec : {M : Type 1} → statement M
+unfolding rangeText
 put-range-spec =
     tie.close
     (tie.spec
-    (λ c κs. search needs) (λ c. search needs) (λ c κs. search needs) (λ c. search needs) returns (λ c κs. search needs) (λ c κs. search needs) (λ c κs. search needs) (λ c. search needs) returns-2)
+    (λ c κs. search needs) (λ c. search needs) (λ c κs. search needs) (λ c. search needs)
+    (λ c. rw (sym (c .before .before .before .before .before .before .is-everything .ensures) ∙ c .before .before .before .before .before .if1 .taken) (c .before .before .put-text .ensures))
+    (λ c κs. search needs) (λ c κs. search needs) (λ c κs. search needs) (λ c. search needs)
+    (λ c. rw (sym (c .before .before .before .before .before .before .before .before .before .before .before .before .before .is-everything .ensures) ∙ c .before .before .before .before .before .before .before .before .before .before .before .before .if1 .left) (put-both (put-both (c .before .before .before .before .before .before .before .before .before .before .put-decimal .ensures) (c .before .before .before .before .before .before .put-end .ensures)) (c .before .before .put-aside .ensures))))
