@@ -74,8 +74,8 @@ extern "C" {
 #define PW_REASON_LEAVES 6          /* a jump leads past the end, or the last instruction is neither an exit nor a jump */
 #define PW_REASON_DEAD_CODE 12      /* no path leads to the instruction, whatever the values: nothing goes on or jumps to it */
 #define PW_REASON_READS_UNSET 7     /* a register may be read that was not set */
-#define PW_REASON_OUTSIDE 8         /* a load or store may lie outside the record and the stack, or a store may hit the record */
 #define PW_REASON_LEAKS_ADDRESS 9   /* the outcome could depend on an address */
+#define PW_REASON_OUTSIDE 8         /* a load or store may lie outside the record and the stack, or a store may hit the record */
 
 /* ---- faults of a run */
 

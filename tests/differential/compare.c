@@ -9,7 +9,8 @@
 #include <string.h>
 
 enum { GUARD = 16, GUARD_WORDS = 2, ANSWER_ROOM = 5, RUNS_PER_PROGRAM = 6, DIFFERENCES_SHOWN = 3 };
-enum { RECORDS_TRIED = 3, LAYOUTS_TRIED = 6, OLD_STACKS = 3, ACCEPTED_AIM = 20000 };
+/* 95 % of the 131,421 that were accepted when this was written. */
+enum { RECORDS_TRIED = 3, LAYOUTS_TRIED = 6, OLD_STACKS = 3, ACCEPTED_AIM = 124850 };
 
 typedef unsigned long long wide;
 
