@@ -7,40 +7,16 @@ use crate::Fault;
 use crate::Span;
 use crate::Topic;
 use crate::Verb;
+use crate::fault::FINE;
+use crate::fault::NO_FILE;
+use crate::fault::NOT_FOR_VERB;
+use crate::fault::UNKNOWN_OPTION;
 use crate::word::Head;
 use crate::word::topic_of;
 use text::page::write_letter;
 use text::page::write_text;
 use text::scan::find;
 use text::table::write_marked;
-
-// Sentences from this one on are about the verb.
-const ABOUT_VERB: u64 = 15;
-// No sentence has this number.
-const NOTHING: u64 = 99;
-
-fn sentence_of(fault: Fault) -> u64 {
-    match fault {
-        Fault::NoVerb => 0,
-        Fault::UnknownVerb => 1,
-        Fault::BatchAlone => 2,
-        Fault::ExtraWord => 3,
-        Fault::UnknownOption => 4,
-        Fault::NotForVerb => 5,
-        Fault::Twice => 6,
-        Fault::TwoKinds => 7,
-        Fault::MissingValue => 8,
-        Fault::UnwantedValue => 9,
-        Fault::NotANumber => 10,
-        Fault::EmptySection => 11,
-        Fault::TwoFiles => 12,
-        Fault::SectionNeedsElf => 13,
-        Fault::TwoStdin => 14,
-        Fault::NoFile => 15,
-        Fault::NoRecord => 16,
-        Fault::NoRecordFile => 17,
-    }
-}
 
 // The sentence that lists the options of a verb.
 fn options_of_verb(verb: Verb) -> u64 {
@@ -54,7 +30,7 @@ fn options_of_verb(verb: Verb) -> u64 {
 
 fn options_of_head(head: Head) -> u64 {
     let Head::Is(topic) = head else {
-        return NOTHING;
+        return FINE;
     };
     let Topic::Of(verb) = topic else {
         return 20;
@@ -64,19 +40,19 @@ fn options_of_head(head: Head) -> u64 {
 
 // What comes behind sentence k: of an option that may not stand there, those that may.
 fn sentence_after(k: u64, verb: &[u8]) -> u64 {
-    if (k == 4) | (k == 5) {
+    if (k == UNKNOWN_OPTION) | (k == NOT_FOR_VERB) {
         let head = topic_of(verb);
         return options_of_head(head);
     }
-    NOTHING
+    FINE
 }
 
-// The words for # in sentence k, of arguments of which the first ends at `end`. A piece that does not lie in them is quoted as nothing.
+// The words for # in sentence k: from NO_FILE on the verb, which ends at `end`. A piece that does not lie in the arguments is quoted as nothing.
 fn quoted(size: usize, end: usize, k: u64, found: Span) -> Span
     requires { ⌜ end ≤ size ⌝ }
     ensures { λ r. ⌜ Inside size r ⌝ }
 {
-    if k >= ABOUT_VERB {
+    if k >= NO_FILE {
         return Span { start: 0, end };
     }
     if found.end > size {
@@ -177,12 +153,11 @@ fn write_quoting(out: &mut [u8], at: usize, k: u64, args: &[u8], start: usize, e
 pub fn complain(args: &[u8], fault: Fault, at: Span, out: &mut [u8]) -> usize
     ensures { λ r. ⌜ r ≤ length (now (out .entry)) ⌝ }
 {
-    let k = sentence_of(fault);
     let end = find(args, 0, 0);
-    let after = sentence_after(k, &args[0..end]);
-    let found = quoted(args.len(), end, k, at);
+    let after = sentence_after(fault, &args[0..end]);
+    let found = quoted(args.len(), end, fault, at);
     let o = write_text(out, 0, b"probewarden: ");
-    let o = write_quoting(out, o, k, args, found.start, found.end);
+    let o = write_quoting(out, o, fault, args, found.start, found.end);
     let o = write_quoting(out, o, after, args, 0, end);
     write_letter(out, o, 10)
 }

@@ -97,6 +97,16 @@ pub fn options_of(verb: Verb) -> u64 {
     }
 }
 
+// The option without which a verb does nothing, or 0.
+pub fn need_of(verb: Verb) -> u64 {
+    match verb {
+        Verb::Verify => RECORD,
+        Verb::Explain => RECORD,
+        Verb::Run => RECORD_FILE,
+        Verb::Show => 0,
+    }
+}
+
 // What the first word, or the one after `help`, names.
 pub enum Head {
     Is(Topic),
