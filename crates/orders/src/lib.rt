@@ -219,7 +219,7 @@ fn parse_help(args: &[u8], from: usize) -> Parsed
     if next < args.len() {
         return wrong(args.len(), EXTRA_WORD, next, find(args, next, 0));
     }
-    let head = topic_of(&args[from..end]);
+    let head = topic_of(args, from, end);
     match head {
         Head::Is(topic) => Parsed::HelpOn(topic),
         Head::Not => wrong(args.len(), UNKNOWN_VERB, from, end),
@@ -232,7 +232,7 @@ fn parse_batch(args: &[u8], from: usize) -> Parsed
     ensures { λ r. ⌜ Answer (length (now (args .entry))) r ⌝ }
 {
     let end = find(args, from, 0);
-    if option_of(&args[from..end]) == HELP {
+    if option_of(args, from, end) == HELP {
         return Parsed::HelpOn(Topic::Batch);
     }
     wrong(args.len(), BATCH_ALONE, from, end)
@@ -246,7 +246,7 @@ pub fn parse(args: &[u8]) -> Parsed
     if args.len() == 0 {
         return wrong(args.len(), NO_VERB, 0, 0);
     }
-    let head = topic_of(&args[0..end]);
+    let head = topic_of(args, 0, end);
     let Head::Is(topic) = head else {
         return wrong(args.len(), UNKNOWN_VERB, 0, end);
     };

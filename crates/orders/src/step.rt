@@ -213,7 +213,7 @@ fn take_option(
     ensures { λ r. ⌜ Stepped (length (now (args .entry))) start r ⌝ }
 {
     let end = name_end(args, start, last);
-    let option = option_of(&args[start..end]);
+    let option = option_of(args, start, end);
     let seen = p.seen;
     let fault = test_option(option, allowed, seen);
     if fault != FINE {
