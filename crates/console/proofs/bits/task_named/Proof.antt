@@ -1,48 +1,13 @@
--- `task_named` makes the tests of its definition, in its order.
--- Assumes nothing.
+-- `task_named` finds the word in the table, whose order is that of the definition's tests.
+use mathlib.Core.Path.{_≡_, _∙_}
 use borrow.Author.Needs.{needs}
-use Rattle.console.proofs.Asking.{hit, miss}
-use Rattle.console.specs.Bits.{taskNamed}
+use Rattle.console.specs.Bits.{taskNumbered}
+use Rattle.console.proofs.Naming.{task-at-place}
 use Rattle.console.proofs.bits.task_named.Statement.{statement}
 use Rattle.console.proofs.bits.task_named.Tie as tie
 
 returns : tie.Need-returns
-unfolding taskNamed
-returns c = hit _ _ (c .before .same .ensures) (c .if1 .taken)
-
-returns-2 : tie.Need-returns-2
-unfolding taskNamed
-returns-2 c = miss _ _ _ (c .before .before .before .before .same .ensures) (c .before .before .before .if1 .left) (hit _ _ (c .before .same2 .ensures) (c .if2 .taken))
-
-returns-3 : tie.Need-returns-3
-unfolding taskNamed
-returns-3 c = miss _ _ _ (c .before .before .before .before .before .before .before .same .ensures) (c .before .before .before .before .before .before .if1 .left) (miss _ _ _ (c .before .before .before .before .same2 .ensures) (c .before .before .before .if2 .left) (hit _ _ (c .before .same3 .ensures) (c .if3 .taken)))
-
-returns-4 : tie.Need-returns-4
-unfolding taskNamed
-returns-4 c = miss _ _ _ (c .before .before .before .before .before .before .before .before .before .before .same .ensures) (c .before .before .before .before .before .before .before .before .before .if1 .left) (miss _ _ _ (c .before .before .before .before .before .before .before .same2 .ensures) (c .before .before .before .before .before .before .if2 .left) (miss _ _ _ (c .before .before .before .before .same3 .ensures) (c .before .before .before .if3 .left) (hit _ _ (c .before .same4 .ensures) (c .if4 .taken))))
-
-returns-5 : tie.Need-returns-5
-unfolding taskNamed
-returns-5 c = miss _ _ _ (c .before .before .before .before .before .before .before .before .before .before .before .before .before .same .ensures) (c .before .before .before .before .before .before .before .before .before .before .before .before .if1 .left) (miss _ _ _ (c .before .before .before .before .before .before .before .before .before .before .same2 .ensures) (c .before .before .before .before .before .before .before .before .before .if2 .left) (miss _ _ _ (c .before .before .before .before .before .before .before .same3 .ensures) (c .before .before .before .before .before .before .if3 .left) (miss _ _ _ (c .before .before .before .before .same4 .ensures) (c .before .before .before .if4 .left) (hit _ _ (c .before .same5 .ensures) (c .if5 .taken)))))
-
-returns-6 : tie.Need-returns-6
-unfolding taskNamed
-returns-6 c = miss _ _ _ (c .before .before .before .before .before .before .before .before .before .before .before .before .before .before .before .before .same .ensures) (c .before .before .before .before .before .before .before .before .before .before .before .before .before .before .before .if1 .left) (miss _ _ _ (c .before .before .before .before .before .before .before .before .before .before .before .before .before .same2 .ensures) (c .before .before .before .before .before .before .before .before .before .before .before .before .if2 .left) (miss _ _ _ (c .before .before .before .before .before .before .before .before .before .before .same3 .ensures) (c .before .before .before .before .before .before .before .before .before .if3 .left) (miss _ _ _ (c .before .before .before .before .before .before .before .same4 .ensures) (c .before .before .before .before .before .before .if4 .left) (miss _ _ _ (c .before .before .before .before .same5 .ensures) (c .before .before .before .if5 .left) (hit _ _ (c .before .same6 .ensures) (c .if6 .taken))))))
-
-returns-7 : tie.Need-returns-7
-unfolding taskNamed
-returns-7 c = miss _ _ _ (c .before .before .before .before .before .before .before .before .before .before .before .before .before .before .before .before .before .before .before .same .ensures) (c .before .before .before .before .before .before .before .before .before .before .before .before .before .before .before .before .before .before .if1 .left) (miss _ _ _ (c .before .before .before .before .before .before .before .before .before .before .before .before .before .before .before .before .same2 .ensures) (c .before .before .before .before .before .before .before .before .before .before .before .before .before .before .before .if2 .left) (miss _ _ _ (c .before .before .before .before .before .before .before .before .before .before .before .before .before .same3 .ensures) (c .before .before .before .before .before .before .before .before .before .before .before .before .if3 .left) (miss _ _ _ (c .before .before .before .before .before .before .before .before .before .before .same4 .ensures) (c .before .before .before .before .before .before .before .before .before .if4 .left) (miss _ _ _ (c .before .before .before .before .before .before .before .same5 .ensures) (c .before .before .before .before .before .before .if5 .left) (miss _ _ _ (c .before .before .before .before .same6 .ensures) (c .before .before .before .if6 .left) (hit _ _ (c .before .same7 .ensures) (c .if7 .taken)))))))
-
-returns-8 : tie.Need-returns-8
-unfolding taskNamed
-returns-8 c = miss _ _ _ (c .before .before .before .before .before .before .before .before .before .before .before .before .before .before .before .before .before .before .before .before .same .ensures) (c .before .before .before .before .before .before .before .before .before .before .before .before .before .before .before .before .before .before .before .if1 .left) (miss _ _ _ (c .before .before .before .before .before .before .before .before .before .before .before .before .before .before .before .before .before .same2 .ensures) (c .before .before .before .before .before .before .before .before .before .before .before .before .before .before .before .before .if2 .left) (miss _ _ _ (c .before .before .before .before .before .before .before .before .before .before .before .before .before .before .same3 .ensures) (c .before .before .before .before .before .before .before .before .before .before .before .before .before .if3 .left) (miss _ _ _ (c .before .before .before .before .before .before .before .before .before .before .before .same4 .ensures) (c .before .before .before .before .before .before .before .before .before .before .if4 .left) (miss _ _ _ (c .before .before .before .before .before .before .before .before .same5 .ensures) (c .before .before .before .before .before .before .before .if5 .left) (miss _ _ _ (c .before .before .before .before .before .same6 .ensures) (c .before .before .before .before .if6 .left) (miss _ _ _ (c .before .before .same7 .ensures) (c .before .if7 .left) (c .later-task .ensures)))))))
+returns c = rw (c .before .position-of .ensures) at (c .task-numbered .ensures) ∙ task-at-place _
 
 pub task-named-spec : {M : Type 1} → statement M
-task-named-spec =
-    tie.close
-    (tie.spec
-    (λ c. search needs) (λ c κs. search needs) returns (λ c. search needs) (λ c κs. search needs) returns-2
-    (λ c. search needs) (λ c κs. search needs) returns-3 (λ c. search needs) (λ c κs. search needs) returns-4
-    (λ c. search needs) (λ c κs. search needs) returns-5 (λ c. search needs) (λ c κs. search needs) returns-6
-    (λ c. search needs) (λ c κs. search needs) returns-7 (λ c κs. search needs) returns-8)
+task-named-spec = tie.close (tie.spec (λ c. search needs) (λ c κs. search needs) (λ c κs. search needs) returns)
