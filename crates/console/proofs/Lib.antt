@@ -1,5 +1,6 @@
 pub mod Words
 pub mod Sizing
+pub mod Naming
 pub mod Asking
 pub mod Serving
 pub mod Replies

@@ -1,10 +1,11 @@
 -- What a request about known bits says, and which numbers the pair that answers it must have.
 use mathlib.Core.Bool.{cond}
-use mathlib.Core.List.{List}
+use mathlib.Core.List.{List, [], _∷_}
 use mathlib.Core.Logic.{_⊎_}
 use Prim.Native.Nat.{ℕ}
 use lib.Bits.{bitAnd}
 use lib.Dec.{eqb}
+use lib.ListN.{getD}
 use Rattle.word.specs.declared.Operation.the-variants.{Add, Sub, Mul, Div, Or, And, Lsh, Rsh, Neg, Mod, Xor, Mov, Arsh}
 use Rattle.known_bits.specs.declared.Bits.{Bits}
 use Rattle.known_bits.specs.KnownBits.{Well, Sound, Results, Cuts}
@@ -48,6 +49,16 @@ taskNamed s =
     (cond (equal s (chars "OR")) (a-task.Is (Alu Or))
     (cond (equal s (chars "AND")) (a-task.Is (Alu And))
     (cond (equal s (chars "LSH")) (a-task.Is (Alu Lsh)) (laterTask s)))))))
+
+-- the tasks in the order in which taskNamed has them
+unfoldable pub tasks : List Tasks
+tasks =
+    a-task.Is (Alu Add) ∷ a-task.Is (Alu Sub) ∷ a-task.Is (Alu Mul) ∷ a-task.Is (Alu Div) ∷ a-task.Is (Alu Or) ∷
+    a-task.Is (Alu And) ∷ a-task.Is (Alu Lsh) ∷ a-task.Is (Alu Rsh) ∷ a-task.Is (Alu Neg) ∷ a-task.Is (Alu Mod) ∷
+    a-task.Is (Alu Xor) ∷ a-task.Is (Alu Mov) ∷ a-task.Is (Alu Arsh) ∷ a-task.Is Join ∷ a-task.Is Cut ∷ []
+
+unfoldable pub taskNumbered : ℕ → Tasks
+taskNumbered k = getD tasks k a-task.Not
 
 -- what the word WIDTH names
 unfoldable pub widthNamed : List ℕ → Widths

@@ -4,7 +4,7 @@ ghost use mathlib.Core.Path.{_≡_};
 ghost use Prim.Native.Nat.{_≤_};
 ghost use lib.ListN.{length, drop};
 ghost use Rattle.console.specs.Request.{Inside, part};
-ghost use Rattle.console.specs.Bits.{taskNamed, laterTask, widthNamed, bitsOf, gathered, askedOf, places, Serves};
+ghost use Rattle.console.specs.Bits.{taskNamed, taskNumbered, widthNamed, bitsOf, gathered, askedOf, places, Serves};
 ghost use Rattle.console.specs.declared.bits.Task.the-variants.{Join};
 use crate::request::Word;
 use crate::request::next_word;
@@ -17,6 +17,7 @@ use text::pair::Pair;
 use text::pair::read_pair;
 use text::scan::same;
 use text::scan::skip;
+use text::table::position_of;
 use word::Operation;
 
 // What is done with the pairs.
@@ -58,61 +59,39 @@ pub enum Asked {
     Not,
 }
 
-fn later_task(s: &[u8]) -> Tasks
-    ensures { λ r. ⌜ r ≡ laterTask (now (s .entry)) ⌝ }
+// The task whose name is the text k of the table below.
+fn task_numbered(k: u64) -> Tasks
+    ensures { λ r. ⌜ r ≡ taskNumbered k ⌝ }
 {
-    if same(s, b"RSH") {
-        return Tasks::Is(Task::Alu(Operation::Rsh));
+    match k {
+        0 => Tasks::Is(Task::Alu(Operation::Add)),
+        1 => Tasks::Is(Task::Alu(Operation::Sub)),
+        2 => Tasks::Is(Task::Alu(Operation::Mul)),
+        3 => Tasks::Is(Task::Alu(Operation::Div)),
+        4 => Tasks::Is(Task::Alu(Operation::Or)),
+        5 => Tasks::Is(Task::Alu(Operation::And)),
+        6 => Tasks::Is(Task::Alu(Operation::Lsh)),
+        7 => Tasks::Is(Task::Alu(Operation::Rsh)),
+        8 => Tasks::Is(Task::Alu(Operation::Neg)),
+        9 => Tasks::Is(Task::Alu(Operation::Mod)),
+        10 => Tasks::Is(Task::Alu(Operation::Xor)),
+        11 => Tasks::Is(Task::Alu(Operation::Mov)),
+        12 => Tasks::Is(Task::Alu(Operation::Arsh)),
+        13 => Tasks::Is(Task::Join),
+        14 => Tasks::Is(Task::Cut),
+        _ => Tasks::Not,
     }
-    if same(s, b"NEG") {
-        return Tasks::Is(Task::Alu(Operation::Neg));
-    }
-    if same(s, b"MOD") {
-        return Tasks::Is(Task::Alu(Operation::Mod));
-    }
-    if same(s, b"XOR") {
-        return Tasks::Is(Task::Alu(Operation::Xor));
-    }
-    if same(s, b"MOV") {
-        return Tasks::Is(Task::Alu(Operation::Mov));
-    }
-    if same(s, b"ARSH") {
-        return Tasks::Is(Task::Alu(Operation::Arsh));
-    }
-    if same(s, b"JOIN") {
-        return Tasks::Is(Task::Join);
-    }
-    if same(s, b"CUT") {
-        return Tasks::Is(Task::Cut);
-    }
-    Tasks::Not
 }
 
 fn task_named(s: &[u8]) -> Tasks
     ensures { λ r. ⌜ r ≡ taskNamed (now (s .entry)) ⌝ }
 {
-    if same(s, b"ADD") {
-        return Tasks::Is(Task::Alu(Operation::Add));
-    }
-    if same(s, b"SUB") {
-        return Tasks::Is(Task::Alu(Operation::Sub));
-    }
-    if same(s, b"MUL") {
-        return Tasks::Is(Task::Alu(Operation::Mul));
-    }
-    if same(s, b"DIV") {
-        return Tasks::Is(Task::Alu(Operation::Div));
-    }
-    if same(s, b"OR") {
-        return Tasks::Is(Task::Alu(Operation::Or));
-    }
-    if same(s, b"AND") {
-        return Tasks::Is(Task::Alu(Operation::And));
-    }
-    if same(s, b"LSH") {
-        return Tasks::Is(Task::Alu(Operation::Lsh));
-    }
-    later_task(s)
+    let k = position_of(
+        b"ADD\nSUB\nMUL\nDIV\nOR\nAND\nLSH\nRSH\nNEG\nMOD\nXOR\nMOV\nARSH\nJOIN\nCUT\n",
+        15,
+        s,
+    );
+    task_numbered(k)
 }
 
 fn width_named(s: &[u8]) -> Widths

@@ -1,8 +1,6 @@
 -- What a step of each kind says.
--- Assumes nothing.
 use mathlib.Core.Path.{_≡_}
 use Prim.Native.Nat.{ℕ}
-use Rattle.orders.specs.declared.Fault.{Fault}
 use Rattle.orders.specs.declared.Span.{Span}
 use Rattle.orders.specs.declared.Parsed.the-variants.{Wrong}
 use Rattle.orders.specs.declared.step.Progress.{Progress}
@@ -13,8 +11,8 @@ use Rattle.orders.specs.Orders.{Inside, Answer, Gone, Stepped}
 pub step-goes : {k from : ℕ} {step : Step} {p : Progress} → Stepped k from step → step ≡ Go p → Gone k from p
 step-goes g e = rw e at (g .moves)
 
-step-inside : {k from : ℕ} {step : Step} {fault : Fault} {at : Span} → Stepped k from step → step ≡ Stop fault at → Inside k at
+step-inside : {k from : ℕ} {step : Step} {fault : ℕ} {at : Span} → Stepped k from step → step ≡ Stop fault at → Inside k at
 step-inside g e = rw e at (g .moves)
 
-pub step-stops : {k from : ℕ} {step : Step} {fault : Fault} {at : Span} → Stepped k from step → step ≡ Stop fault at → Answer k (Wrong fault at)
+pub step-stops : {k from : ℕ} {step : Step} {fault : ℕ} {at : Span} → Stepped k from step → step ≡ Stop fault at → Answer k (Wrong fault at)
 step-stops g e = record { spans = step-inside g e }

@@ -3,6 +3,16 @@
 ghost use Prim.Native.Nat.{_≤_};
 ghost use lib.ListN.{length};
 ghost use Rattle.orders.specs.Orders.{Answer, Sane, Stepped};
+use fault::BATCH_ALONE;
+use fault::EXTRA_WORD;
+use fault::FINE;
+use fault::NO_FILE;
+use fault::NO_RECORD;
+use fault::NO_RECORD_FILE;
+use fault::NO_VERB;
+use fault::SECTION_NEEDS_ELF;
+use fault::TWO_STDIN;
+use fault::UNKNOWN_VERB;
 use loading::Kind;
 use step::Progress;
 use step::Step;
@@ -15,15 +25,16 @@ use word::HEX;
 use word::Head;
 use word::RAW;
 use word::RECORD;
-use word::RECORD_FILE;
 use word::SECTION;
 use word::TRACE;
 use word::is_dash;
+use word::need_of;
 use word::next_word;
 use word::option_of;
 use word::options_of;
 use word::topic_of;
 
+mod fault;
 mod manual;
 mod message;
 mod step;
@@ -66,26 +77,8 @@ pub struct Order {
     pub trace: bool,
 }
 
-pub enum Fault {
-    NoVerb,
-    UnknownVerb,
-    BatchAlone,
-    ExtraWord,
-    UnknownOption,
-    NotForVerb,
-    Twice,
-    MissingValue,
-    UnwantedValue,
-    NotANumber,
-    NoFile,
-    TwoFiles,
-    NoRecord,
-    NoRecordFile,
-    TwoKinds,
-    EmptySection,
-    SectionNeedsElf,
-    TwoStdin,
-}
+// What is wrong: a number of `fault`.
+pub type Fault = u64;
 
 pub enum Parsed {
     Do(Order),
@@ -137,56 +130,40 @@ fn order_of(k: usize, verb: Verb, p: Progress) -> Parsed
     })
 }
 
-// What `run` needs besides its file. Standard input cannot be both the probe and the record.
-fn finish_run(args: &[u8], p: Progress) -> Parsed
-    requires { ⌜ Sane (length (now args)) p ⌝ }
-    ensures { λ r. ⌜ Answer (length (now (args .entry))) r ⌝ }
-{
-    if p.seen & RECORD_FILE == 0 {
-        return wrong(args.len(), Fault::NoRecordFile, 0, 0);
+// What is missing or does not go together once all words are read. Standard input cannot be both the probe and the record.
+fn lack(need: u64, seen: u64, two_dashes: bool) -> Fault {
+    if seen & FILE == 0 {
+        return NO_FILE;
     }
-    let file = p.file;
-    let rec_file = p.rec_file;
-    if is_dash(args, file.start, file.end) & is_dash(args, rec_file.start, rec_file.end) {
-        return wrong(args.len(), Fault::TwoStdin, file.start, file.end);
+    if (seen & SECTION != 0) & (seen & (RAW | HEX) != 0) {
+        return SECTION_NEEDS_ELF;
     }
-    order_of(args.len(), Verb::Run, p)
-}
-
-fn finish_verb(args: &[u8], verb: Verb, p: Progress) -> Parsed
-    requires { ⌜ Sane (length (now args)) p ⌝ }
-    ensures { λ r. ⌜ Answer (length (now (args .entry))) r ⌝ }
-{
-    match verb {
-        Verb::Run => finish_run(args, p),
-        Verb::Show => order_of(args.len(), Verb::Show, p),
-        Verb::Verify | Verb::Explain => {
-            if p.seen & RECORD == 0 {
-                return wrong(args.len(), Fault::NoRecord, 0, 0);
-            }
-            order_of(args.len(), verb, p)
+    if need & seen != need {
+        if need == RECORD {
+            return NO_RECORD;
         }
+        return NO_RECORD_FILE;
     }
+    if two_dashes {
+        return TWO_STDIN;
+    }
+    FINE
 }
 
-// All words are read: what each verb needs is there, or it is said what is missing.
+// All words are read. Of what may be wrong now only a section is quoted.
 fn finish(args: &[u8], verb: Verb, p: Progress) -> Parsed
     requires { ⌜ Sane (length (now args)) p ⌝ }
     ensures { λ r. ⌜ Answer (length (now (args .entry))) r ⌝ }
 {
-    if p.seen & FILE == 0 {
-        return wrong(args.len(), Fault::NoFile, 0, 0);
+    let file = p.file;
+    let rec_file = p.rec_file;
+    let section = p.section;
+    let two = is_dash(args, file.start, file.end) & is_dash(args, rec_file.start, rec_file.end);
+    let fault = lack(need_of(verb), p.seen, two);
+    if fault == FINE {
+        return order_of(args.len(), verb, p);
     }
-    if (p.seen & SECTION != 0) & (p.seen & (RAW | HEX) != 0) {
-        let section = p.section;
-        return wrong(
-            args.len(),
-            Fault::SectionNeedsElf,
-            section.start,
-            section.end,
-        );
-    }
-    finish_verb(args, verb, p)
+    wrong(args.len(), fault, section.start, section.end)
 }
 
 fn stopped(k: usize, from: usize, verb: Verb, step: Step) -> Parsed
@@ -240,12 +217,12 @@ fn parse_help(args: &[u8], from: usize) -> Parsed
     let end = find(args, from, 0);
     let next = next_word(args, end);
     if next < args.len() {
-        return wrong(args.len(), Fault::ExtraWord, next, find(args, next, 0));
+        return wrong(args.len(), EXTRA_WORD, next, find(args, next, 0));
     }
-    let head = topic_of(&args[from..end]);
+    let head = topic_of(args, from, end);
     match head {
         Head::Is(topic) => Parsed::HelpOn(topic),
-        Head::Not => wrong(args.len(), Fault::UnknownVerb, from, end),
+        Head::Not => wrong(args.len(), UNKNOWN_VERB, from, end),
     }
 }
 
@@ -255,10 +232,10 @@ fn parse_batch(args: &[u8], from: usize) -> Parsed
     ensures { λ r. ⌜ Answer (length (now (args .entry))) r ⌝ }
 {
     let end = find(args, from, 0);
-    if option_of(&args[from..end]) == HELP {
+    if option_of(args, from, end) == HELP {
         return Parsed::HelpOn(Topic::Batch);
     }
-    wrong(args.len(), Fault::BatchAlone, from, end)
+    wrong(args.len(), BATCH_ALONE, from, end)
 }
 
 pub fn parse(args: &[u8]) -> Parsed
@@ -267,11 +244,11 @@ pub fn parse(args: &[u8]) -> Parsed
     let end = find(args, 0, 0);
     let next = next_word(args, end);
     if args.len() == 0 {
-        return wrong(args.len(), Fault::NoVerb, 0, 0);
+        return wrong(args.len(), NO_VERB, 0, 0);
     }
-    let head = topic_of(&args[0..end]);
+    let head = topic_of(args, 0, end);
     let Head::Is(topic) = head else {
-        return wrong(args.len(), Fault::UnknownVerb, 0, end);
+        return wrong(args.len(), UNKNOWN_VERB, 0, end);
     };
     match topic {
         Topic::Whole => Parsed::HelpOn(Topic::Whole),

@@ -1,5 +1,5 @@
 // The help text: of the whole command, and of each verb with its options, the exit statuses and an example.
-// A page is up to four texts of tables, in which ~ stands for the end of a line. What finds no room is left out.
+// A page is up to four texts of three tables, in which ~ stands for the end of a line. What finds no room is left out.
 ghost use Prim.Native.Nat.{_≤_};
 ghost use lib.ListN.{length};
 use crate::Topic;
@@ -13,24 +13,25 @@ const OPTIONS: u64 = 0;
 
 const STATUSES: u64 = 1;
 
-// The numbers of a page's texts: its own, what all verbs that read a probe say of it, the exit statuses, the example behind them.
-struct Page(u64, u64, u64, u64);
+// The numbers of a page's texts: a verb's own or another page's own, what all verbs that read a probe say of it, the exit statuses, the
+// example behind them.
+struct Page(u64, u64, u64, u64, u64);
 
 fn page_of_verb(verb: Verb) -> Page {
     match verb {
-        Verb::Verify => Page(0, OPTIONS, STATUSES, 2),
-        Verb::Explain => Page(1, OPTIONS, STATUSES, 3),
-        Verb::Run => Page(2, OPTIONS, STATUSES, 4),
-        Verb::Show => Page(3, OPTIONS, STATUSES, 5),
+        Verb::Verify => Page(0, NOTHING, OPTIONS, STATUSES, 2),
+        Verb::Explain => Page(1, NOTHING, OPTIONS, STATUSES, 3),
+        Verb::Run => Page(2, NOTHING, OPTIONS, STATUSES, 4),
+        Verb::Show => Page(3, NOTHING, OPTIONS, STATUSES, 5),
     }
 }
 
 fn page_of(topic: Topic) -> Page {
     match topic {
         Topic::Of(verb) => page_of_verb(verb),
-        Topic::Whole => Page(4, NOTHING, STATUSES, 2),
-        Topic::Batch => Page(5, NOTHING, NOTHING, NOTHING),
-        Topic::Help => Page(6, NOTHING, NOTHING, NOTHING),
+        Topic::Whole => Page(NOTHING, 0, NOTHING, STATUSES, 2),
+        Topic::Batch => Page(NOTHING, 1, NOTHING, NOTHING, NOTHING),
+        Topic::Help => Page(NOTHING, 2, NOTHING, NOTHING, NOTHING),
     }
 }
 
@@ -66,12 +67,13 @@ fn write_of_verb(out: &mut [u8], k: u64) -> usize
     )
 }
 
-fn write_of_other(out: &mut [u8], k: u64) -> usize
-    ensures { λ r. ⌜ r ≤ length (now (out .entry)) ⌝ }
+fn write_of_other(out: &mut [u8], at: usize, k: u64) -> usize
+    requires { ⌜ at ≤ length (now out) ⌝ }
+    ensures { λ r. ⌜ (at ≤ r) × (r ≤ length (now (out .entry))) ⌝ }
 {
     write_marked(
         out,
-        0,
+        at,
         b"usage: probewarden VERB ..~\
         ~\
         \x20 verify FILE --record N       is the probe safe on every record of N bytes?~\
@@ -99,15 +101,6 @@ fn write_of_other(out: &mut [u8], k: u64) -> usize
         b'~',
         b"\n",
     )
-}
-
-fn write_own(out: &mut [u8], k: u64) -> usize
-    ensures { λ r. ⌜ r ≤ length (now (out .entry)) ⌝ }
-{
-    if k < 4 {
-        return write_of_verb(out, k);
-    }
-    write_of_other(out, k - 4)
 }
 
 // What several pages have, and the examples.
@@ -145,8 +138,9 @@ pub fn help(topic: Topic, out: &mut [u8]) -> usize
     ensures { λ r. ⌜ r ≤ length (now (out .entry)) ⌝ }
 {
     let page = page_of(topic);
-    let o = write_own(out, page.0);
-    let o = write_common(out, o, page.1);
+    let o = write_of_verb(out, page.0);
+    let o = write_of_other(out, o, page.1);
     let o = write_common(out, o, page.2);
-    write_common(out, o, page.3)
+    let o = write_common(out, o, page.3);
+    write_common(out, o, page.4)
 }

@@ -5,78 +5,37 @@ ghost use lib.ListN.{length};
 ghost use Rattle.orders.specs.Orders.{Inside};
 use crate::Fault;
 use crate::Span;
-use crate::Topic;
-use crate::Verb;
-use crate::word::Head;
-use crate::word::topic_of;
+use crate::fault::FINE;
+use crate::fault::NO_FILE;
+use crate::fault::NOT_FOR_VERB;
+use crate::fault::UNKNOWN_OPTION;
+use crate::word::head_number;
 use text::page::write_letter;
 use text::page::write_text;
 use text::scan::find;
 use text::table::write_marked;
 
-// Sentences from this one on are about the verb.
-const ABOUT_VERB: u64 = 15;
-// No sentence has this number.
-const NOTHING: u64 = 99;
-
-fn sentence_of(fault: Fault) -> u64 {
-    match fault {
-        Fault::NoVerb => 0,
-        Fault::UnknownVerb => 1,
-        Fault::BatchAlone => 2,
-        Fault::ExtraWord => 3,
-        Fault::UnknownOption => 4,
-        Fault::NotForVerb => 5,
-        Fault::Twice => 6,
-        Fault::TwoKinds => 7,
-        Fault::MissingValue => 8,
-        Fault::UnwantedValue => 9,
-        Fault::NotANumber => 10,
-        Fault::EmptySection => 11,
-        Fault::TwoFiles => 12,
-        Fault::SectionNeedsElf => 13,
-        Fault::TwoStdin => 14,
-        Fault::NoFile => 15,
-        Fault::NoRecord => 16,
-        Fault::NoRecordFile => 17,
+// What comes behind sentence k: of an option that may not stand there, those that may. The verb ends at `end`.
+fn sentence_after(args: &[u8], end: usize, k: u64) -> u64
+    requires { ⌜ end ≤ length (now args) ⌝ }
+{
+    if (k != UNKNOWN_OPTION) & (k != NOT_FOR_VERB) {
+        return FINE;
+    }
+    match head_number(args, 0, end) {
+        0 | 1 => 18,
+        2 => 19,
+        8 => FINE,
+        _ => 20,
     }
 }
 
-// The sentence that lists the options of a verb.
-fn options_of_verb(verb: Verb) -> u64 {
-    match verb {
-        Verb::Verify => 18,
-        Verb::Explain => 18,
-        Verb::Run => 19,
-        Verb::Show => 20,
-    }
-}
-
-fn options_of_head(head: Head) -> u64 {
-    let Head::Is(topic) = head else {
-        return NOTHING;
-    };
-    let Topic::Of(verb) = topic else {
-        return 20;
-    };
-    options_of_verb(verb)
-}
-
-// What comes behind sentence k: of an option that may not stand there, those that may.
-fn sentence_after(k: u64, verb: &[u8]) -> u64 {
-    if (k == 4) | (k == 5) {
-        let head = topic_of(verb);
-        return options_of_head(head);
-    }
-    NOTHING
-}
-
-// The words for # in sentence k, of arguments of which the first ends at `end`. A piece that does not lie in them is quoted as nothing.
+// The words for # in sentence k: from NO_FILE on the verb, which ends at `end`. A piece that does not lie in the arguments is quoted as nothing.
 fn quoted(size: usize, end: usize, k: u64, found: Span) -> Span
     requires { ⌜ end ≤ size ⌝ }
     ensures { λ r. ⌜ Inside size r ⌝ }
 {
-    if k >= ABOUT_VERB {
+    if k >= NO_FILE {
         return Span { start: 0, end };
     }
     if found.end > size {
@@ -102,30 +61,33 @@ fn visible(b: u8) -> u8 {
     b
 }
 
-// The words between two indices, with a space between them.
-fn write_all_words(args: &[u8], start: usize, end: usize, out: &mut [u8], at: usize) -> usize
-    requires { ⌜ (start ≤ end) × ((end ≤ length (now args)) × (at ≤ length (now out))) ⌝ }
-    ensures { λ r. ⌜ (at ≤ r) × (r ≤ length (now (out .entry))) ⌝ }
+// Of the words between two indices 64 characters are enough.
+fn enough(start: usize, end: usize) -> usize
+    requires { ⌜ start ≤ end ⌝ }
+    ensures { λ r. ⌜ (start ≤ r) × (r ≤ end) ⌝ }
 {
-    let mut o = at;
-    let mut i = start;
-    while i < end {
-        o = write_letter(out, o, visible(args[i]));
-        i += 1;
+    if end - start > 64 {
+        return start + 64;
     }
-    o
+    end
 }
 
-// The same, of which 64 characters are enough.
+// The words between two indices, with a space between them.
 fn write_words(args: &[u8], start: usize, end: usize, out: &mut [u8], at: usize) -> usize
     requires { ⌜ (start ≤ end) × ((end ≤ length (now args)) × (at ≤ length (now out))) ⌝ }
     ensures { λ r. ⌜ (at ≤ r) × (r ≤ length (now (out .entry))) ⌝ }
 {
-    if end - start <= 64 {
-        return write_all_words(args, start, end, out, at);
+    let last = enough(start, end);
+    let mut o = at;
+    let mut i = start;
+    while i < last {
+        o = write_letter(out, o, visible(args[i]));
+        i += 1;
     }
-    let o = write_all_words(args, start, start + 64, out, at);
-    write_text(out, o, b"..")
+    if last < end {
+        return write_text(out, o, b"..");
+    }
+    o
 }
 
 // Sentence k with its words.
@@ -177,12 +139,11 @@ fn write_quoting(out: &mut [u8], at: usize, k: u64, args: &[u8], start: usize, e
 pub fn complain(args: &[u8], fault: Fault, at: Span, out: &mut [u8]) -> usize
     ensures { λ r. ⌜ r ≤ length (now (out .entry)) ⌝ }
 {
-    let k = sentence_of(fault);
     let end = find(args, 0, 0);
-    let after = sentence_after(k, &args[0..end]);
-    let found = quoted(args.len(), end, k, at);
+    let after = sentence_after(args, end, fault);
+    let found = quoted(args.len(), end, fault, at);
     let o = write_text(out, 0, b"probewarden: ");
-    let o = write_quoting(out, o, k, args, found.start, found.end);
+    let o = write_quoting(out, o, fault, args, found.start, found.end);
     let o = write_quoting(out, o, after, args, 0, end);
     write_letter(out, o, 10)
 }

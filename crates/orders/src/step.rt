@@ -4,6 +4,16 @@ ghost use lib.ListN.{length};
 ghost use Rattle.orders.specs.Orders.{Sane, Stepped};
 use crate::Fault;
 use crate::Span;
+use crate::fault::EMPTY_SECTION;
+use crate::fault::FINE;
+use crate::fault::MISSING_VALUE;
+use crate::fault::NOT_A_NUMBER;
+use crate::fault::NOT_FOR_VERB;
+use crate::fault::TWICE;
+use crate::fault::TWO_FILES;
+use crate::fault::TWO_KINDS;
+use crate::fault::UNKNOWN_OPTION;
+use crate::fault::UNWANTED_VALUE;
 use crate::word::DASHES;
 use crate::word::FILE;
 use crate::word::HELP;
@@ -54,7 +64,7 @@ fn take_file(k: usize, p: Progress, start: usize, end: usize, next: usize) -> St
     ensures { λ r. ⌜ Stepped k start r ⌝ }
 {
     if p.seen & FILE != 0 {
-        return stop(k, start, Fault::TwoFiles, start, end);
+        return stop(k, start, TWO_FILES, start, end);
     }
     let file = Span { start, end };
     let mut q = p;
@@ -98,7 +108,7 @@ fn take_name(k: usize, p: Progress, option: u64, start: usize, from: usize, end:
         return Step::Go(q);
     }
     if from == end {
-        return stop(k, start, Fault::EmptySection, start, end);
+        return stop(k, start, EMPTY_SECTION, start, end);
     }
     q.section = name;
     Step::Go(q)
@@ -115,27 +125,25 @@ fn take_value(args: &[u8], p: Progress, option: u64, start: usize, from: usize, 
     let number = read_number(&args[from..end]);
     match number {
         Number::Is(n) => take_number(args.len(), p, option, n, start),
-        Number::Not => stop(args.len(), start, Fault::NotANumber, start, end),
+        Number::Not => stop(args.len(), start, NOT_A_NUMBER, start, end),
     }
-}
-
-// Whether an option may stand here. No option is 0.
-fn may_stand(option: u64, allowed: u64, seen: u64) -> bool {
-    (option & allowed != 0) & (option & seen == 0) & ((option & KINDS == 0) | (seen & KINDS == 0))
 }
 
 // Why an option may not stand here.
-fn fault_of(option: u64, allowed: u64, seen: u64) -> Fault {
+fn test_option(option: u64, allowed: u64, seen: u64) -> Fault {
     if option == 0 {
-        return Fault::UnknownOption;
+        return UNKNOWN_OPTION;
     }
     if option & allowed == 0 {
-        return Fault::NotForVerb;
+        return NOT_FOR_VERB;
     }
     if option & seen != 0 {
-        return Fault::Twice;
+        return TWICE;
     }
-    Fault::TwoKinds
+    if (option & KINDS != 0) & (seen & KINDS != 0) {
+        return TWO_KINDS;
+    }
+    FINE
 }
 
 // An option without a value. `end` is where its name ends, and `last` where its word does.
@@ -144,7 +152,7 @@ fn take_switch(k: usize, p: Progress, option: u64, start: usize, end: usize, las
     ensures { λ r. ⌜ Stepped k start r ⌝ }
 {
     if end < last {
-        return stop(k, start, Fault::UnwantedValue, start, last);
+        return stop(k, start, UNWANTED_VALUE, start, last);
     }
     if option == HELP {
         return Step::Help;
@@ -162,7 +170,7 @@ fn take_valued(args: &[u8], p: Progress, option: u64, start: usize, end: usize, 
     }
     let from = p.next;
     if from >= args.len() {
-        return stop(args.len(), start, Fault::MissingValue, start, last);
+        return stop(args.len(), start, MISSING_VALUE, start, last);
     }
     let to = find(args, from, 0);
     let mut q = p;
@@ -205,16 +213,11 @@ fn take_option(
     ensures { λ r. ⌜ Stepped (length (now (args .entry))) start r ⌝ }
 {
     let end = name_end(args, start, last);
-    let option = option_of(&args[start..end]);
+    let option = option_of(args, start, end);
     let seen = p.seen;
-    if !may_stand(option, allowed, seen) {
-        return stop(
-            args.len(),
-            start,
-            fault_of(option, allowed, seen),
-            start,
-            last,
-        );
+    let fault = test_option(option, allowed, seen);
+    if fault != FINE {
+        return stop(args.len(), start, fault, start, last);
     }
     let mut q = p;
     q.next = next;

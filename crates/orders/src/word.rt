@@ -53,13 +53,15 @@ pub fn next_word(args: &[u8], end: usize) -> usize
     end
 }
 
-// The option that a word is, or 0: each but the last stands at the number of its bit.
-pub fn option_of(word: &[u8]) -> u64 {
+// The option that a piece of the arguments is, or 0: each but the last stands at the number of its bit.
+pub fn option_of(args: &[u8], start: usize, end: usize) -> u64
+    requires { ⌜ (start ≤ end) × (end ≤ length (now args)) ⌝ }
+{
     let k = position_of(
         b"--record\n--record-file\n--record-at\n--stack-at\n--budget\n--trace\n\
         --section\n--raw\n--hex\n--elf\n--help\n--\n-h\n",
         13,
-        word,
+        &args[start..end],
     );
     if k < 12 {
         return 1 << k;
@@ -97,6 +99,16 @@ pub fn options_of(verb: Verb) -> u64 {
     }
 }
 
+// The option without which a verb does nothing, or 0.
+pub fn need_of(verb: Verb) -> u64 {
+    match verb {
+        Verb::Verify => RECORD,
+        Verb::Explain => RECORD,
+        Verb::Run => RECORD_FILE,
+        Verb::Show => 0,
+    }
+}
+
 // What the first word, or the one after `help`, names.
 pub enum Head {
     Is(Topic),
@@ -116,11 +128,19 @@ fn topic_at(k: u64) -> Head {
     }
 }
 
-pub fn topic_of(word: &[u8]) -> Head {
-    let k = position_of(
+// The number of a word that `topic_at` knows, or 8.
+pub fn head_number(args: &[u8], start: usize, end: usize) -> u64
+    requires { ⌜ (start ≤ end) × (end ≤ length (now args)) ⌝ }
+{
+    position_of(
         b"verify\nexplain\nrun\nshow\nbatch\nhelp\n--help\n-h\n",
         8,
-        word,
-    );
-    topic_at(k)
+        &args[start..end],
+    )
+}
+
+pub fn topic_of(args: &[u8], start: usize, end: usize) -> Head
+    requires { ⌜ (start ≤ end) × (end ≤ length (now args)) ⌝ }
+{
+    topic_at(head_number(args, start, end))
 }

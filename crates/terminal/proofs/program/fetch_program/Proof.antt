@@ -1,0 +1,17 @@
+-- The file is the first bytes of its buffer, so what lies in the one lies in the other.
+use native.Mathlib.Omega.{arith}
+use borrow.Author.Needs.{needs}
+use Rattle.terminal.proofs.Placing.{inside-more}
+use Rattle.terminal.proofs.program.fetch_program.Statement.{statement}
+use Rattle.terminal.proofs.program.fetch_program.Tie as tie
+
+returns-2 : tie.Need-returns-2
+returns-2 c = ?
+
+pub fetch-program-spec : {M : Type 1} → statement M
+fetch-program-spec =
+    tie.close
+    (tie.spec
+    (λ c. search needs) (λ c. search needs) (λ c. search needs) (λ c κs. search needs) (λ c κs. search needs) (λ c. search needs)
+    (λ c. search needs) (λ c. search needs) (λ c. search needs) (λ c. search needs) (λ c. search needs) (λ c κs. search needs)
+    (λ c. search needs) (λ c. search needs) (λ c. search needs) (λ c. search needs) returns-2)
