@@ -1,8 +1,7 @@
 -- `put_bits` goes by the same cases as its definition.
--- Assumes nothing.
 use borrow.Author.Needs.{needs}
 use borrow.Author.Tests.{eq-eqb, ne-eqb}
-use Rattle.text.proofs.Puts.{put-none, put-both}
+use Rattle.text.proofs.Puts.{put-none}
 use Rattle.listing.specs.ValueText.{leftOpen, bitsText}
 use Rattle.listing.proofs.value.put_bits.Statement.{statement}
 use Rattle.listing.proofs.value.put_bits.Tie as tie
@@ -13,10 +12,10 @@ returns c = rw (← c .before .up-to .ensures, eq-eqb _ _ (c .if1 .taken)) (put-
 
 returns-2 : tie.Need-returns-2
 unfolding bitsText leftOpen
-returns-2 c = rw (← c .before .before .before .before .before .before .before .before .before .before .before .before .before .before .before .before .before .before .before .up-to .ensures, ne-eqb _ _ (c .before .before .before .before .before .before .before .before .before .before .before .before .before .before .before .before .before .before .if1 .left)) (put-both (put-both (put-both (c .before .before .before .before .before .before .before .before .before .before .before .before .before .before .before .put-text .ensures) (c .before .before .before .before .before .before .before .before .before .before .before .put-hexadecimal .ensures)) (c .before .before .before .before .before .before .put-text2 .ensures)) (c .before .before .put-hexadecimal2 .ensures))
+returns-2 c = rw (← c .before .before .before .before .before .up-to .ensures, ne-eqb _ _ (c .before .before .before .before .if1 .left)) (c .before .before .put-value-and-mask .ensures)
 
 pub put-bits-spec : {M : Type 1} → statement M
 put-bits-spec =
     tie.close
     (tie.spec
-    (λ c κs. search needs) returns (λ c. search needs) (λ c κs. search needs) (λ c κs. search needs) (λ c. search needs) (λ c κs. search needs) (λ c κs. search needs) (λ c. search needs) returns-2)
+    (λ c κs. search needs) returns (λ c κs. search needs) (λ c. search needs) returns-2)
