@@ -1,10 +1,9 @@
 // Texts with gaps. A form is a text of a table, by number, whose marks stand for the numbers that come with it, one after the other:
-// `#` in decimal, `$` in decimal as a signed number, `^` in hexadecimal, `~` as a character, `@` as a word of the instructions' syntax.
-// `|` takes no number: it starts a note on a line of its own. What is said is so worked out first, on numbers alone, and one call writes
-// it: calls that lend a buffer in many arms cost their check far more.
+// `#` in decimal, `^` in hexadecimal, `~` as a character, `@` as a word of the instructions' syntax. `|` takes no number: it starts a note
+// on a line of its own. What is said is so worked out first, on numbers alone, and one call writes it: calls that lend a buffer in many
+// arms cost their check far more.
 ghost use Prim.Native.Nat.{_≤_};
 ghost use lib.ListN.{length};
-use crate::sign::write_signed;
 use crate::words::write_word;
 use text::page::write_decimal;
 use text::page::write_hexadecimal;
@@ -38,7 +37,6 @@ fn takes(mark: u8) -> usize
 {
     match mark {
         b'#' => 1,
-        b'$' => 1,
         b'^' => 1,
         b'~' => 1,
         b'@' => 1,
@@ -78,7 +76,6 @@ fn write_mark(out: &mut [u8], at: usize, mark: u8, n: u64) -> usize
     match mark {
         b'\n' => at,
         b'#' => write_decimal(out, at, n),
-        b'$' => write_signed(out, at, n),
         b'^' => write_hexadecimal(out, at, n),
         b'@' => write_word(out, at, n),
         b'|' => write_text(out, at, b"\n         \t; "),

@@ -8,18 +8,15 @@ use crate::form::write_form;
 use crate::instruction::form_of;
 use crate::meaning::CUT_SHORT;
 use crate::meaning::CUT_TO_ONE;
-use crate::meaning::IMM_IS_SET;
-use crate::meaning::NO_OPCODE;
 use crate::meaning::write_meaning;
 use crate::rule::rule_of;
+use crate::words::BRACKETS;
 use machine::instruction::Instruction;
 use machine::instruction::decode;
 use text::buffer::put_text;
 use text::page::write_decimal;
 use text::page::write_letter;
 use text::page::write_text;
-use text::table::write_entry;
-use text::table::write_filled;
 
 // Where a number that ends at k is shown from: eight characters before, or from its first digit on.
 fn shown_from(k: usize) -> usize
@@ -93,14 +90,6 @@ fn last_byte(size: usize, from: usize) -> usize
     from + 8
 }
 
-// Which of two texts counts n bytes.
-fn is_one(n: u64) -> u64 {
-    if n == 1 {
-        return 1;
-    }
-    0
-}
-
 fn cut_short(n: u64) -> Form {
     if n == 1 {
         return filled(CUT_TO_ONE, n);
@@ -123,38 +112,10 @@ fn meaning_at(program: &[u8], from: usize) -> Form
             program[from + 1],
             program[from + 2],
             program[from + 3],
+            BRACKETS,
         );
     }
     form_of(instruction)
-}
-
-// Whether a form is a rule by which bytes are no instruction.
-fn is_rule(form: u64) -> u64 {
-    if form < NO_OPCODE {
-        return 0;
-    }
-    if IMM_IS_SET < form {
-        return 0;
-    }
-    1
-}
-
-fn write_told(out: &mut [u8], at: usize, form: Form) -> usize
-    requires { ⌜ at ≤ length (now out) ⌝ }
-    ensures { λ r. ⌜ (at ≤ r) × (r ≤ length (now (out .entry))) ⌝ }
-{
-    let rule = is_rule(form.entry);
-    let a = write_entry(out, at, b"\t\n\t<no instruction: \n", rule);
-    let b = write_meaning(out, a, form);
-    write_entry(out, b, b"\n>\n", rule)
-}
-
-// How many bytes, in words.
-pub fn write_count(out: &mut [u8], at: usize, n: u64) -> usize
-    requires { ⌜ at ≤ length (now out) ⌝ }
-    ensures { λ r. ⌜ (at ≤ r) × (r ≤ length (now (out .entry))) ⌝ }
-{
-    write_filled(out, at, b"# bytes\n# byte\n", is_one(n), n)
 }
 
 // The line of index i without its end.
@@ -168,7 +129,8 @@ pub fn write_line(out: &mut [u8], at: usize, program: &[u8], i: usize) -> usize
     let a = write_index(out, at, i);
     let b = write_text(out, a, b":\t");
     let c = write_bytes(out, b, &program[from..end]);
-    write_told(out, c, meaning)
+    let d = write_letter(out, c, b'\t');
+    write_meaning(out, d, meaning)
 }
 
 // Ends a line at `at`. Where there is no room for the end, or just room, the last four characters of `out` say that text may be missing.

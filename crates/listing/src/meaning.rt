@@ -7,39 +7,33 @@ use crate::form::write_form;
 
 pub const ALU: u64 = 0;
 
-pub const ALU_REGISTER: u64 = 1;
+pub const BRANCH: u64 = 1;
 
-pub const BRANCH: u64 = 2;
+pub const GOTO: u64 = 2;
 
-pub const BRANCH_REGISTER: u64 = 3;
+pub const EXIT: u64 = 3;
 
-pub const GOTO: u64 = 4;
+pub const LOAD: u64 = 4;
 
-pub const EXIT: u64 = 5;
+pub const STORE: u64 = 5;
 
-pub const LOAD: u64 = 6;
+pub const NOTHING: u64 = 6;
 
-pub const STORE: u64 = 7;
+pub const NO_OPCODE: u64 = 7;
 
-pub const STORE_REGISTER: u64 = 8;
+pub const NO_REGISTER: u64 = 8;
 
-pub const NOTHING: u64 = 9;
+pub const DST_IS_SET: u64 = 9;
 
-pub const NO_OPCODE: u64 = 10;
+pub const SRC_IS_SET: u64 = 10;
 
-pub const NO_REGISTER: u64 = 11;
+pub const OFF_IS_SET: u64 = 11;
 
-pub const DST_IS_SET: u64 = 12;
+pub const IMM_IS_SET: u64 = 12;
 
-pub const SRC_IS_SET: u64 = 13;
+pub const CUT_SHORT: u64 = 13;
 
-pub const OFF_IS_SET: u64 = 14;
-
-pub const IMM_IS_SET: u64 = 15;
-
-pub const CUT_SHORT: u64 = 16;
-
-pub const CUT_TO_ONE: u64 = 17;
+pub const CUT_TO_ONE: u64 = 14;
 
 pub fn write_meaning(out: &mut [u8], at: usize, form: Form) -> usize
     requires { ⌜ at ≤ length (now out) ⌝ }
@@ -48,22 +42,19 @@ pub fn write_meaning(out: &mut [u8], at: usize, form: Form) -> usize
     write_form(
         out,
         at,
-        b"~#@$\n\
-          ~#@~#\n\
-          if ~#@$ goto ~#\n\
-          if ~#@~# goto ~#\n\
+        b"@#@@#\n\
+          if @#@@# goto ~#\n\
           goto ~#\n\
           exit\n\
           r# = *(@ *)(r# ~ #)\n\
-          *(@ *)(r# ~ #) = $\n\
-          *(@ *)(r# ~ #) = r#\n\
+          *(@ *)(r# ~ #) = @#\n\
           \n\
-          opcode 0x^^ is not in the instruction set\n\
-          there is no register r#\n\
-          dst must be 0\n\
-          src must be 0\n\
-          off must be 0\n\
-          imm must be 0\n\
+          @opcode 0x^^ is not in the instruction set@\n\
+          @there is no register r#@\n\
+          @dst must be 0@\n\
+          @src must be 0@\n\
+          @off must be 0@\n\
+          @imm must be 0@\n\
           <cut short: # bytes of 8>\n\
           <cut short: # byte of 8>\n",
         form,

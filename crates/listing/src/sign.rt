@@ -1,13 +1,9 @@
 // Words read as signed numbers.
 ghost use mathlib.Core.Path.{_≡_};
-ghost use Prim.Native.Nat.{_≤_};
-ghost use lib.ListN.{length};
 ghost use Rattle.text.specs.Buffer.{Put};
 ghost use Rattle.listing.specs.Signed as defined;
 use text::buffer::put;
 use text::buffer::put_decimal;
-use text::page::write_decimal;
-use text::page::write_letter;
 
 // The character + or -.
 pub fn sign(n: u64) -> u8
@@ -34,16 +30,4 @@ pub fn put_signed(out: &mut [u8], at: usize, n: u64) -> usize
 {
     let i = put(out, at, sign(n));
     put_decimal(out, i, magnitude(n))
-}
-
-// Writes a signed number that has a sign only where it is negative.
-pub fn write_signed(out: &mut [u8], at: usize, n: u64) -> usize
-    requires { ⌜ at ≤ length (now out) ⌝ }
-    ensures { λ r. ⌜ (at ≤ r) × (r ≤ length (now (out .entry))) ⌝ }
-{
-    if n < 9223372036854775808 {
-        return write_decimal(out, at, n);
-    }
-    let a = write_letter(out, at, b'-');
-    write_decimal(out, a, magnitude(n))
 }

@@ -2,7 +2,7 @@
 ghost use mathlib.Core.Path.{_≡_};
 ghost use mathlib.Core.List.{_++_};
 ghost use Prim.Native.Nat.{_≤_};
-ghost use Rattle.text.specs.Buffer.{Put, chars};
+ghost use Rattle.text.specs.Buffer.{Put, chars, hexadecimal};
 ghost use Rattle.listing.specs.ValueText.{endText, signedEndText, signedRangeText, isEverything, asideText, rangeText, bitsText, numberText, offsetText, backText, insideText, stackText, addressText, goneText, valueText};
 use crate::sign::put_signed;
 use analysis::Gone;
@@ -72,6 +72,16 @@ fn put_range(out: &mut [u8], at: usize, lo: u64, hi: u64) -> usize
     put_aside(out, j, lo, hi)
 }
 
+fn put_value_and_mask(out: &mut [u8], at: usize, value: u64, mask: u64) -> usize
+    ensures { λ r. ⌜ Put (now (out .entry)) at (chars " bits " ++ hexadecimal value ++ chars "/" ++ hexadecimal mask)
+        (now (out .exit)) r ⌝ }
+{
+    let i = put_text(out, at, b" bits ");
+    let j = put_hexadecimal(out, i, value);
+    let k = put_text(out, j, b"/");
+    put_hexadecimal(out, k, mask)
+}
+
 fn put_bits(out: &mut [u8], at: usize, value: u64, mask: u64, lo: u64, hi: u64) -> usize
     ensures { λ r. ⌜ Put (now (out .entry)) at (bitsText value mask lo hi) (now (out .exit)) r ⌝ }
 {
@@ -79,10 +89,7 @@ fn put_bits(out: &mut [u8], at: usize, value: u64, mask: u64, lo: u64, hi: u64) 
     if mask & left_open == left_open {
         return at;
     }
-    let i = put_text(out, at, b" bits ");
-    let j = put_hexadecimal(out, i, value);
-    let k = put_text(out, j, b"/");
-    put_hexadecimal(out, k, mask)
+    put_value_and_mask(out, at, value, mask)
 }
 
 pub fn put_number(out: &mut [u8], at: usize, n: Number) -> usize

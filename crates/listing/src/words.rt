@@ -1,10 +1,22 @@
-// The words of the instructions' syntax, by number: operations, comparisons, and the sizes of loads and stores.
+// The words of the instructions' syntax, by number: operations, comparisons, the sizes of loads and stores, and what stands before a
+// register or a number, or around a rule.
 ghost use Prim.Native.Nat.{_≤_};
 ghost use lib.ListN.{length};
 use machine::instruction::Size;
 use text::table::write_entry;
 use word::Comparison;
 use word::Operation;
+
+// Nothing around a rule, or brackets; what closes is the next word.
+pub const BARE: u64 = 28;
+
+pub const BRACKETS: u64 = 30;
+
+pub const MINUS: u64 = 32;
+
+pub const LONG: u64 = 33;
+
+pub const SHORT: u64 = 34;
 
 pub fn operation_word(operation: Operation) -> u64 {
     match operation {
@@ -83,7 +95,14 @@ pub fn write_word(out: &mut [u8], at: usize, k: u64) -> usize
           u8\n\
           u16\n\
           u32\n\
-          u64\n",
+          u64\n\
+          \n\
+          \n\
+          <no instruction: \n\
+          >\n\
+          -\n\
+          r\n\
+          w\n",
         k,
     )
 }

@@ -6,8 +6,9 @@ use Rattle.console.proofs.Naming.{task-at-place}
 use Rattle.console.proofs.bits.task_named.Statement.{statement}
 use Rattle.console.proofs.bits.task_named.Tie as tie
 
-returns : tie.Need-returns
-returns c = rw (c .before .position-of .ensures) at (c .task-numbered .ensures) ∙ task-at-place _
-
 pub task-named-spec : {M : Type 1} → statement M
-task-named-spec = tie.close (tie.spec (λ c. search needs) (λ c κs. search needs) (λ c κs. search needs) returns)
+task-named-spec =
+    tie.close
+    (tie.spec
+    (λ c. search needs) (λ c κs. search needs) (λ c κs. search needs)
+    (λ c. rw (c .before .position-of .ensures) at (c .task-numbered .ensures) ∙ task-at-place _))

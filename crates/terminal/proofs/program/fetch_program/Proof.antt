@@ -6,13 +6,11 @@ use Rattle.terminal.proofs.Placing.{inside-more}
 use Rattle.terminal.proofs.program.fetch_program.Statement.{statement}
 use Rattle.terminal.proofs.program.fetch_program.Tie as tie
 
-returns-2 : tie.Need-returns-2
-returns-2 c = inside-more _ _ _ _ (simp length-take (omega (arith, c .before .before .before .before .before .before .before .before .before .before .before .before .before .before .before .before .before .before .read-file .ensures))) (c .before .before .before .before .before .before .find-program .ensures)
-
 pub fetch-program-spec : {M : Type 1} → statement M
 fetch-program-spec =
     tie.close
     (tie.spec
     (λ c. search needs) (λ c. search needs) (λ c. search needs) (λ c κs. search needs) (λ c κs. search needs) (λ c. search needs)
     (λ c. search needs) (λ c. search needs) (λ c. search needs) (λ c. search needs) (λ c. search needs) (λ c κs. search needs)
-    (λ c. search needs) (λ c. search needs) (λ c. search needs) (λ c. search needs) returns-2)
+    (λ c. search needs) (λ c. search needs) (λ c. search needs) (λ c. search needs)
+    (λ c. inside-more _ _ _ _ (simp length-take (omega (arith, c .before .before .before .before .before .before .before .before .before .before .before .before .before .before .before .before .before .before .read-file .ensures))) (c .before .before .before .before .before .before .find-program .ensures)))
