@@ -5,7 +5,7 @@ use analysis::Finding;
 use explain::joins::note_ways;
 use explain::line::explain_line;
 use listing::line::show_line;
-use terminal::answer::conclude;
+use reports::said::conclude;
 use terminal::ending::fail;
 use terminal::ending::say;
 use terminal::ending::status;

@@ -6,14 +6,14 @@ use dispatch::answer::Next;
 use interpreter::interpret;
 use machine::outcome::Outcome;
 use orders::Order;
-use reports::outcome::outcome_line;
-use reports::outcome::refusal_line;
-use reports::outcome::status_of_run;
 use terminal::ending::finish;
 use terminal::ending::say;
 use terminal::ending::status;
 use terminal::ending::stop;
 use terminal::file::read_file;
+use tracing::outcome::outcome_line;
+use tracing::outcome::refusal_line;
+use tracing::outcome::status_of_run;
 use tracing::trace_step;
 
 // The steps of a run that is not refused, a line each.

@@ -8,7 +8,7 @@ use orders::Order;
 use orders::Parsed;
 use orders::Verb;
 use orders::parse;
-use terminal::answer::judge;
+use reports::said::judge;
 use terminal::arguments::help_on;
 use terminal::arguments::refuse_arguments;
 use terminal::arguments::refuse_words;

@@ -1,12 +1,12 @@
 // What the verifier answers: in a line, and as an exit status.
 ghost use Prim.Native.Nat.{_≤_};
 ghost use lib.ListN.{length};
-use crate::numbers::write_number;
 use analysis::Finding;
 use analysis::Reason;
 use reasons::put_sentence;
 use reasons::reason_number;
 use text::page::write_letter;
+use text::page::write_number;
 use verifier::Answer;
 
 fn write_sentence(out: &mut [u8], at: usize, reason: Reason) -> usize

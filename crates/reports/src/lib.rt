@@ -1,4 +1,3 @@
-// What the verifier answers, and what a run comes to, in a line each: all on slices, with no input or output.
+// What the verifier answers: a line, an exit status, and both said.
 pub mod answer;
-pub mod numbers;
-pub mod outcome;
+pub mod said;

@@ -1,4 +1,4 @@
-// A step of a run as a line: the instruction, and what it changed. The step is the interpreter's own.
+// A run in lines: what it comes to, and a step, with the instruction and what it changed. The step is the interpreter's own.
 ghost use mathlib.Core.Path.{_≡_};
 ghost use Prim.Native.Nat.{_≤_, _<_, _^_};
 ghost use lib.ListN.{length};
@@ -11,8 +11,12 @@ use listing::line::write_line;
 use machine::outcome::Cause;
 use reasons::fault_number;
 use reasons::put_fault;
-use reports::numbers::write_number;
-use reports::numbers::write_word;
+use text::page::write_number;
+
+mod numbers;
+pub mod outcome;
+
+use numbers::write_word;
 
 // How many bytes of text there are, where the run goes on, and why it does not, if it stops.
 pub struct Traced {

@@ -1,7 +1,7 @@
 // The verifier's answer, said; its status is the answer's.
-use crate::ending::finish;
-use reports::answer::answer_line;
-use reports::answer::status_of;
+use crate::answer::answer_line;
+use crate::answer::status_of;
+use terminal::ending::finish;
 use verifier::Answer;
 use verifier::verify::verify;
 

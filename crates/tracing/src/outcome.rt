@@ -1,12 +1,12 @@
 // What a run comes to: in a line, and as an exit status.
 ghost use Prim.Native.Nat.{_≤_};
 ghost use lib.ListN.{length};
-use crate::numbers::write_number;
 use crate::numbers::write_word;
 use machine::outcome::Cause;
 use machine::outcome::Outcome;
 use reasons::fault_number;
 use reasons::put_fault;
+use text::page::write_number;
 use text::page::write_text;
 
 fn write_fault_name(out: &mut [u8], at: usize, fault: u64) -> usize
