@@ -1,5 +1,5 @@
 # all.awk: every opcode of the instruction set with a few operands, as hexadecimal text for `show`: what tests/listing/all.hex holds.
-# The fields that an opcode doesn't use are 0. Assumes nothing.
+# The fields that an opcode doesn't use are 0.
 function low(n, k) { return n % k + (n % k < 0 ? k : 0) }
 function put(op, dst, src, off, imm, o, i) {
     o = low(off, 65536)

@@ -1,5 +1,4 @@
 -- The first half of the theorem: where the pass accepts, the facts that it settled on at each index are stable, and each step goes forward.
--- Assumes nothing.
 use mathlib.Core.Path.{_≡_, refl, sym, ap, _∙_, subst}
 use mathlib.Core.Bool.{Bool, true, false, cond}
 use mathlib.Core.Logic.{_⊎_, inl, inr, ⊎-elim}

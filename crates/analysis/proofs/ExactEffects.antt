@@ -1,5 +1,5 @@
 -- On facts that say exactly what a configuration has, each instruction but a load has an effect that says exactly what the layout-free
--- machine does. Assumes nothing.
+-- machine does.
 use mathlib.Core.Path.{_≡_, refl, sym, ap, ap₂, _∙_, subst}
 use mathlib.Core.Bool.{Bool, true, false, cond, not, _||_, true≢false}
 use mathlib.Core.Logic.{_↔_, _⊎_, inl, inr, ⊎-elim}

@@ -1,5 +1,5 @@
 -- The tests with the reasons 1 to 6 are exact: a program passes them if and only if it is orderly, and a refusal names the lowest index that
--- fails, with the lowest reason there. Assumes nothing.
+-- fails, with the lowest reason there.
 use mathlib.Core.Path.{_≡_, refl, sym, ap, _∙_, subst}
 use mathlib.Core.Bool.{Bool, true, false, cond, not, _&&_, _||_, true≢false}
 use mathlib.Core.Logic.{_↔_, _⊎_, inl, inr, ⊎-elim}

@@ -1,5 +1,4 @@
 -- What each answer of the analysis says, in both directions: (1, 0), (2, 0), the reasons of form with their place, dead code, and the rest.
--- Assumes nothing.
 use mathlib.Core.Path.{_≡_, refl, sym, ap, _∙_, subst}
 use mathlib.Core.Bool.{Bool, true, false, cond, true≢false}
 use mathlib.Core.Logic.{_↔_, _⊎_, inl, inr}

@@ -1,5 +1,5 @@
 -- The machine without a layout: a register is unset, a number, or an offset into the record or the stack. It is stuck on whatever would
--- fault and on whatever would depend on where memory lies. Assumes nothing.
+-- fault and on whatever would depend on where memory lies.
 use mathlib.Core.Path.{_≡_}
 use mathlib.Core.Bool.{Bool, true, false, cond}
 use mathlib.Core.List.{List, [], _∷_}

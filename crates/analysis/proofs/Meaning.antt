@@ -1,5 +1,4 @@
 -- Which layout-free configurations the facts at an index stand for, and that joined facts stand for both.
--- Assumes nothing.
 use mathlib.Core.Path.{_≡_, refl}
 use mathlib.Core.Logic.{_⊎_, inl, inr}
 use mathlib.Core.List.{List, [], _∷_}

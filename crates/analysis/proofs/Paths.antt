@@ -1,5 +1,4 @@
 -- The test for dead code is exact: it passes if and only if a path leads to each instruction, and it names the lowest index that none leads to.
--- Assumes nothing.
 use mathlib.Core.Path.{_≡_, refl, sym, ap, _∙_, subst}
 use mathlib.Core.Bool.{Bool, true, false, cond, _||_, true≢false}
 use mathlib.Core.Logic.{_↔_, _⊎_, inl, inr, ⊎-elim}

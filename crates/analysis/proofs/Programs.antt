@@ -1,5 +1,4 @@
 -- The worked programs of docs/MACHINE.md and docs/VERIFIER.md, written as there, eight bytes a numeral.
--- Assumes nothing.
 use mathlib.Core.List.{List, [], _∷_, _++_}
 use Prim.Native.Nat.{ℕ, _/_, _%_, _^_}
 

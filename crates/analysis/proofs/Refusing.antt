@@ -1,5 +1,5 @@
 -- Where a program of good form is refused for its values: at the lowest index whose instruction refuses the facts that wait there, with the
--- instruction's own reason. Assumes nothing.
+-- instruction's own reason.
 use mathlib.Core.Path.{_≡_, refl, sym, ap, _∙_, subst}
 use mathlib.Core.Bool.{Bool, true, false, cond, _||_, true≢false}
 use mathlib.Core.Logic.{_⊎_, inl, inr, ⊎-elim}

@@ -1,5 +1,5 @@
 -- A layout-free run to a verdict is the run of the interpreter's definition under every layout and with every budget, and what is left of it
--- does not depend on the layout. Assumes nothing.
+-- does not depend on the layout.
 use mathlib.Core.Path.{_≡_, refl, sym, ap, _∙_, subst}
 use mathlib.Core.Bool.{Bool, true, false, cond}
 use mathlib.Core.List.{List, [], _∷_}

@@ -1,5 +1,5 @@
 -- Each instruction that the analysis lets pass: the layout-free machine is not stuck on it, and goes where the analysis says, to what it
--- says. Assumes nothing.
+-- says.
 use mathlib.Core.Path.{_≡_, refl, sym, ap, _∙_, subst}
 use mathlib.Core.Bool.{Bool, true, false, cond, _||_}
 use mathlib.Core.Logic.{_⊎_, inl, inr}

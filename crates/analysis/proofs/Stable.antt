@@ -1,5 +1,5 @@
 -- The second half of the theorem: from facts that are stable at every index and a number that falls with each step, a verdict follows
--- within that number of steps. How the facts were found, and whether jumps go forward only, is no matter here. Assumes nothing.
+-- within that number of steps. How the facts were found, and whether jumps go forward only, is no matter here.
 use mathlib.Core.Path.{_≡_, refl}
 use mathlib.Core.List.{List}
 use Prim.Native.Nat.{ℕ, zero, suc, _/_, _≤_, _<_}

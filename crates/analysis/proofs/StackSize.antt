@@ -1,5 +1,4 @@
 -- No instruction changes the size of the layout-free machine's stack.
--- Assumes nothing.
 use mathlib.Core.Path.{_≡_, refl}
 use mathlib.Core.Bool.{Bool, true, false, cond}
 use mathlib.Core.List.{List}

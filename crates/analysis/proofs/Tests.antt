@@ -1,5 +1,4 @@
 -- What follows from a test that is a disjunction.
--- Assumes nothing.
 use mathlib.Core.Path.{_≡_, refl}
 use mathlib.Core.Bool.{Bool, true, false, _||_, true≢false}
 

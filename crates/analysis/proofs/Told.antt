@@ -1,5 +1,4 @@
 -- What a way out of a comparison tells, by the width that is compared: one law each for both widths.
--- Assumes nothing.
 use mathlib.Core.Path.{_≡_}
 use mathlib.Core.Bool.{Bool, not}
 use Prim.Native.Nat.{ℕ, _^_, _<_}

@@ -1,5 +1,4 @@
 -- That Safe says something: memory can be laid for every record, and programs that fault, compare or report addresses are not safe.
--- Assumes nothing.
 use mathlib.Core.Path.{_≡_, refl, sym, ap, _∙_, subst}
 use mathlib.Core.Bool.{Bool, true, false, cond}
 use mathlib.Core.Logic.{_⊎_, inl, inr}

@@ -1,5 +1,5 @@
 -- What the analysis keeps of what is known, for arbitrary facts: it forgets nothing that the Numbers say, and refuses nothing but what
--- docs/VERIFIER.md refuses. A verifier that says no to everything has none of these theorems. Assumes nothing.
+-- docs/VERIFIER.md refuses. A verifier that says no to everything has none of these theorems.
 use mathlib.Core.Path.{_≡_, refl, sym, ap, ap₂, _∙_, subst}
 use mathlib.Core.Bool.{Bool, true, false, cond, _||_}
 use mathlib.Core.List.{List, [], _∷_}

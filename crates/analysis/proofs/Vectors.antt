@@ -1,5 +1,4 @@
 -- The worked programs of docs/VERIFIER.md, judged by computation: both sides of each limit.
--- Assumes nothing.
 use mathlib.Core.Path.{_≡_, refl}
 use mathlib.Core.List.{List, [], _∷_}
 use Prim.Native.Nat.{ℕ}

@@ -1,5 +1,5 @@
 -- A program of good form without loads is accepted if and only if its layout-free run comes to a verdict: every number in it is exact, so
--- that the analysis follows that run and nothing else. Assumes nothing.
+-- that the analysis follows that run and nothing else.
 use mathlib.Core.Path.{_≡_, refl, sym, ap, _∙_, subst}
 use mathlib.Core.Bool.{Bool, true, false, cond}
 use mathlib.Core.Logic.{_↔_, _⊎_, inl, inr, ⊎-elim}

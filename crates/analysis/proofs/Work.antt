@@ -1,5 +1,4 @@
 -- The work of the analysis is linear in the number of instructions.
--- Assumes nothing.
 use mathlib.Core.Path.{_≡_, refl}
 use mathlib.Core.Bool.{Bool, true, false, cond}
 use mathlib.Core.List.{List}

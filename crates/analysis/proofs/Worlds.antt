@@ -1,5 +1,4 @@
 -- The layouts that Safe speaks of are those that the interpreter does not refuse.
--- Assumes nothing.
 use mathlib.Core.Path.{_≡_, refl, sym, ap, _∙_}
 use mathlib.Core.Bool.{Bool, true, false, cond, not, _&&_, _||_, true≢false}
 use mathlib.Core.Logic.{_↔_, _⊎_, inl, inr}

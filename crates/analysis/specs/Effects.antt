@@ -1,5 +1,5 @@
 -- What an instruction does to what is known of the registers, or why it is refused: docs/VERIFIER.md, section 2.
--- Where several reasons apply, 7 (unset) comes before 9 (address) and 9 before 8 (access). Assumes nothing.
+-- Where several reasons apply, 7 (unset) comes before 9 (address) and 9 before 8 (access).
 use mathlib.Core.Bool.{Bool, true, false, cond, _||_}
 use Prim.Native.Nat.{ℕ, _+_, _^_}
 use lib.Dec.{eqb}

@@ -1,5 +1,4 @@
 -- The tests on form of docs/VERIFIER.md, section 1: what a program of good form is, and the first test that fails.
--- Assumes nothing.
 use mathlib.Core.Path.{_≡_}
 use mathlib.Core.Logic.{_⊎_}
 use mathlib.Core.Bool.{Bool, true, false, cond, not, _&&_, _||_}

@@ -1,5 +1,5 @@
 -- The analysis: the tests on form, dead code among them, then one pass that follows the values. Jumps go forward, so each index is looked at once, after all
--- that comes there. The answer is a reason and a place, and how much was done. Assumes nothing.
+-- that comes there. The answer is a reason and a place, and how much was done.
 use mathlib.Core.Bool.{Bool, true, false, cond}
 use mathlib.Core.List.{List}
 use mathlib.Core.Option.{Option, none, some}

@@ -1,5 +1,5 @@
 -- The test for dead code of docs/VERIFIER.md, section 1: one pass over the jump graph. Jumps go forward, so that all that leads to an index
--- has been seen before it is looked at. Assumes nothing.
+-- has been seen before it is looked at.
 use mathlib.Core.Bool.{Bool, true, false, cond, _||_}
 use mathlib.Core.List.{List}
 use mathlib.Core.Option.{Option, none, some}

@@ -1,5 +1,4 @@
 -- What the analysis' yes means, in terms of the machine's own definition.
--- Assumes nothing.
 use mathlib.Core.Path.{_≡_}
 use mathlib.Core.Logic.{_⊎_}
 use mathlib.Core.Bool.{false, cond}

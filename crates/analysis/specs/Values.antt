@@ -1,5 +1,4 @@
 -- What is known of the registers at an index, and what covers two such states where paths meet.
--- Assumes nothing.
 use mathlib.Core.Bool.{Bool, true, false}
 use mathlib.Core.List.{List, [], _∷_}
 use mathlib.Core.Option.{Option, none, some}

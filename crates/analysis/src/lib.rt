@@ -1,5 +1,5 @@
 // What the analysis knows of a program's values, and what it answers. Types only: the analysis is defined in specs/ and computed by the
-// crate `verifier`. Assumes nothing.
+// crate `verifier`.
 use machine::instruction::Operand;
 use number::Number;
 use number::Refined;

@@ -1,5 +1,5 @@
 // AND, OR and XOR. The least and the greatest numbers give the least and the greatest digits of AND and OR.
-// At 32 bits for operands that are cut. Assumes nothing.
+// At 32 bits for operands that are cut.
 ghost use mathlib.Core.Path.{_≡_};
 ghost use Rattle.known_bits.specs.Formula.{digits, parity};
 use crate::pair::pack;

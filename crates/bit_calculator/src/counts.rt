@@ -1,5 +1,4 @@
 // Shifts by a count that is not known: what the least and the greatest count leave of the zeros, or of the sign, of a pair.
-// Assumes nothing.
 ghost use mathlib.Core.Path.{_≡_};
 ghost use Prim.Native.Nat.{ℕ, _-_, _^_, _<_};
 ghost use Rattle.known_bits.specs.Formula.{leftMask, signedRight, shiftedUnknown};

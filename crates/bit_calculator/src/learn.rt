@@ -1,5 +1,4 @@
 // What a comparison tells of a pair on a way out.
-// Assumes nothing.
 ghost use mathlib.Core.Path.{_≡_};
 ghost use Rattle.known_bits.specs.Formula.{cleared, met};
 ghost use Rattle.known_bits.specs.KnownBits.{Well, Both, Apart};

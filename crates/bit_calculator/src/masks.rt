@@ -1,5 +1,4 @@
 // Masks of the bits that a result may have: up to a highest, from a lowest.
-// Assumes nothing.
 ghost use mathlib.Core.Path.{_≡_};
 ghost use lib.Count.{trailingZeros};
 ghost use Rattle.known_bits.specs.Formula.{upTo, fromBit};

@@ -1,5 +1,4 @@
 // An operation of the machine on pairs, at 64 bits (class 7) and at 32 (class 4).
-// Assumes nothing.
 ghost use mathlib.Core.Path.{_≡_};
 ghost use Rattle.known_bits.specs.Computed.{Computed};
 ghost use Rattle.known_bits.specs.Formula.{formula, calculated};

@@ -1,5 +1,4 @@
 // How a pair is built from a number and a mask, so that it has the form.
-// Assumes nothing.
 ghost use mathlib.Core.Path.{_≡_};
 ghost use Rattle.known_bits.specs.Pair.{packed, spread};
 use known_bits::Bits;

@@ -1,5 +1,4 @@
 // What follows the ways of a program: the pair where two paths join, and the cut to 32 bits.
-// Assumes nothing.
 ghost use mathlib.Core.Path.{_≡_};
 ghost use Rattle.known_bits.specs.Formula.{joined, low};
 ghost use Rattle.known_bits.specs.KnownBits.{Well, Sound, Best, Cuts, Either};

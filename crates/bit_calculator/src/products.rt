@@ -1,5 +1,4 @@
 // Products, quotients and rests of pairs: exact ones of numbers that are known, and else what is known of all results.
-// Assumes nothing.
 ghost use mathlib.Core.Path.{_≡_};
 ghost use Prim.Native.Nat.{ℕ, _-_, _^_, _≤_, _<_};
 ghost use lib.Bits.{bitOr};

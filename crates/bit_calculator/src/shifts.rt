@@ -1,5 +1,5 @@
 // The three shifts, by a count that is known, is one of two, or is neither. A count is the low 6 bits of a pair, at 32 bits the low 5.
-// At 32 bits for operands that are cut. Assumes nothing.
+// At 32 bits for operands that are cut.
 ghost use mathlib.Core.Path.{_≡_};
 ghost use Rattle.word.specs.Word.{alu};
 ghost use Rattle.known_bits.specs.Formula.{shiftedBy, shifted};

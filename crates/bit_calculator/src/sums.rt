@@ -1,5 +1,5 @@
 // ADD, SUB and NEG: the least and the greatest carry, or borrow, are those of two ends, and a bit is unknown where these give
-// different results or where an operand's bit is. At 32 bits for operands that are cut. Assumes nothing.
+// different results or where an operand's bit is. At 32 bits for operands that are cut.
 ghost use mathlib.Core.Path.{_≡_};
 ghost use Rattle.known_bits.specs.Formula.{sum, difference};
 ghost use Rattle.known_bits.specs.Pair.{exactly};

@@ -1,5 +1,4 @@
 -- Tests that the code makes by a difference, a quotient or a shift, so that nothing wraps, are those of the definitions.
--- Assumes nothing.
 use mathlib.Core.Path.{_≡_, refl, sym, ap, _∙_}
 use mathlib.Core.Bool.{Bool, true, false}
 use Prim.Native.Nat.{ℕ, _+_, _-_, _*_, _/_, _^_, _≤_, _<_}

@@ -1,5 +1,4 @@
 -- A word is its own low 64 bits: the definitions cut to 64 bits where the code has nothing to do.
--- Assumes nothing.
 use mathlib.Core.Path.{_≡_, sym, _∙_}
 use Prim.Native.Nat.{_/_, _^_, _<_}
 use native.Mathlib.Nat.{mod-eq-of-lt, div-eq-of-lt}

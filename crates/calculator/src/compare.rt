@@ -1,5 +1,4 @@
 // What a way out of a comparison tells of the two Numbers compared.
-// Assumes nothing.
 ghost use mathlib.Core.Path.{_≡_};
 ghost use Rattle.number.specs.Compare as defined;
 use crate::operation::alu64;

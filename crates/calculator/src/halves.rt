@@ -1,5 +1,4 @@
 // What a way out of a comparison of the low halves (class 6) tells of the two whole Numbers.
-// Assumes nothing.
 ghost use mathlib.Core.Path.{_≡_};
 ghost use Rattle.number.specs.Compare as defined;
 ghost use Rattle.number.specs.Halves as halved;

@@ -1,5 +1,4 @@
 // An operation of the machine on Numbers, at 64 bits (class 7) and at 32 (class 4).
-// Assumes nothing.
 ghost use mathlib.Core.Path.{_≡_};
 ghost use mathlib.Core.Bool.{cond};
 ghost use Prim.Native.Nat.{ℕ, _^_};

@@ -1,5 +1,4 @@
 // The range of each operation for two ranges. Whether a result wraps is tested by a difference, a quotient or a shift, which do not.
-// Assumes nothing.
 ghost use mathlib.Core.Path.{_≡_};
 ghost use mathlib.Core.Bool.{cond};
 ghost use Prim.Native.Nat.{_*_, _^_};

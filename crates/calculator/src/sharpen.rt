@@ -1,5 +1,4 @@
 // A Number from a pair and a range, each sharpening the other; Numbers known without a calculation, and the join.
-// Assumes nothing.
 ghost use mathlib.Core.Path.{_≡_};
 ghost use Prim.Native.Nat.{ℕ, _*_, _-_, _^_, min, max};
 ghost use Rattle.number.specs.Sharpen.{narrowed, learnt, sharpened, exact, loaded, joinedNumber};

@@ -1,5 +1,4 @@
 // The answer to a request line.
-// Assumes nothing.
 ghost use mathlib.Core.List.{_++_};
 ghost use mathlib.Core.Path.{_≡_};
 ghost use Prim.Native.Nat.{_≤_};

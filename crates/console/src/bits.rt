@@ -1,5 +1,4 @@
 // What a request about known bits says, and the pair that it is answered with.
-// Assumes nothing.
 ghost use mathlib.Core.Path.{_≡_};
 ghost use Prim.Native.Nat.{_≤_};
 ghost use lib.ListN.{length, drop};

@@ -1,5 +1,4 @@
 // Requests of the batch protocol, a line each, and their answers: all on slices, with no input or output.
-// Assumes nothing.
 pub mod answer;
 pub mod bits;
 pub mod request;

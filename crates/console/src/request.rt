@@ -1,5 +1,4 @@
 // What a request line says. Words are separated by spaces; spaces before the first and after the last word are ignored.
-// Assumes nothing.
 ghost use mathlib.Core.Path.{_≡_};
 ghost use Prim.Native.Nat.{_≤_};
 ghost use lib.ListN.{length, drop};

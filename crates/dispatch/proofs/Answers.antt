@@ -1,4 +1,4 @@
--- How an answer leads on: a fault, whatever its cause, a test that passes, an effect. Assumes nothing.
+-- How an answer leads on: a fault, whatever its cause, a test that passes, an effect.
 use mathlib.Core.Path.{_≡_, refl, sym, ap, subst, _∙_}
 use mathlib.Core.Bool.{Bool, true, false, cond, not, _||_, true≢false}
 use mathlib.Core.List.{List, []}

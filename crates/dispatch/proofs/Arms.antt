@@ -1,5 +1,5 @@
 -- One law a format: the answer of its function leads to what the machine does with the instruction that the fields mean.
--- An arm of the match cites it with its opcode, and the table's line computes. Assumes nothing.
+-- An arm of the match cites it with its opcode, and the table's line computes.
 use mathlib.Core.Path.{_≡_, refl, sym, ap, ap₂, _∙_}
 use mathlib.Core.Bool.{Bool, true, false, cond, not, _&&_, _||_, or-false, or-true, and-false, true≢false}
 use mathlib.Core.List.{List, [], _∷_}

@@ -1,5 +1,5 @@
 -- The laws of the cause: what the mask says of the registers that an instruction reads, and that a fault of the machine has
--- the cause that they give. Assumes nothing.
+-- the cause that they give.
 use mathlib.Core.Path.{_≡_, refl, sym, ap, ap₂, _∙_}
 use mathlib.Core.Bool.{Bool, true, false, cond, not, _||_, or-false, or-assoc}
 use mathlib.Core.List.{List, [], _∷_, _++_}

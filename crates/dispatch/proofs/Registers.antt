@@ -1,4 +1,4 @@
--- The registers as the interpreter keeps them: what one has, and what they are after one is written. Assumes nothing.
+-- The registers as the interpreter keeps them: what one has, and what they are after one is written.
 use mathlib.Core.Path.{_≡_, refl, sym, ap, ap₂, _∙_}
 use mathlib.Core.Bool.{Bool, true, false, cond, not, true≢false}
 use mathlib.Core.List.{List, _∷_}

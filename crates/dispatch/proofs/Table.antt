@@ -1,5 +1,4 @@
 -- What the default arm of a match on numbers is told, and a rule at every number without an arm: one test that antt computes.
--- Assumes nothing.
 use mathlib.Core.Path.{_≡_, refl, _∙_, sym, ap, subst}
 use mathlib.Core.Bool.{Bool, true, false, _&&_, _||_}
 use mathlib.Core.List.{List, [], _∷_}

@@ -1,5 +1,5 @@
 -- How the interpreter keeps a state, and what its answers stand for: numbers in an array, the registers that are set
--- as the bits of a mask, the index in a number. Assumes nothing.
+-- as the bits of a mask, the index in a number.
 use mathlib.Core.Path.{_≡_}
 use mathlib.Core.Bool.{Bool, false, cond, not, _||_}
 use mathlib.Core.List.{List, [], _∷_}

@@ -1,5 +1,4 @@
 // What obeying an instruction answers, and the test of the mask that comes before its effect.
-// Assumes nothing.
 ghost use mathlib.Core.Path.{_≡_};
 ghost use Prim.Native.Nat.{_<_};
 ghost use Rattle.dispatch.specs.Represent.{isSet};

@@ -1,5 +1,5 @@
 // The formats of classes 7 and 4: the tests, then dst becomes the value that is handed in.
-// Each contract leaves the stack open, since none of these functions sees it. Assumes nothing.
+// Each contract leaves the stack open, since none of these functions sees it.
 ghost use mathlib.Core.Path.{_≡_};
 ghost use mathlib.Core.Bool.{true, false, not, _&&_, _||_};
 ghost use Prim.Native.Nat.{_<_};

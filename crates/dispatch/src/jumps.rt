@@ -1,5 +1,5 @@
 // The formats of classes 5 and 6: the tests, then the next index, or the verdict.
-// Each contract leaves registers and stack open, since none of these functions sees them. Assumes nothing.
+// Each contract leaves registers and stack open, since none of these functions sees them.
 ghost use mathlib.Core.Bool.{true, false, not, _&&_, _||_};
 ghost use Prim.Native.Nat.{ℕ, _<_};
 ghost use lib.Dec.{eqb};

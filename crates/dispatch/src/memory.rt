@@ -1,5 +1,5 @@
 // The formats of classes 1, 2 and 3: the tests, then the access, which `machine` tests and makes.
-// A store's contract leaves the registers open, and the record, which no store touches. Assumes nothing.
+// A store's contract leaves the registers open, and the record, which no store touches.
 ghost use mathlib.Core.Path.{_≡_};
 ghost use mathlib.Core.Bool.{true, false, not, _||_};
 ghost use mathlib.Core.List.{List};

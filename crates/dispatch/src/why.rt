@@ -1,5 +1,5 @@
 // Why a probe stops: the cause of the fault at an index, found once, after the run has stopped, since no step carries one.
-// The order is that of docs/MACHINE.md, section 5; what passes all tests and faults can only miss the memory. Assumes nothing.
+// The order is that of docs/MACHINE.md, section 5; what passes all tests and faults can only miss the memory.
 ghost use mathlib.Core.Path.{_≡_};
 ghost use mathlib.Core.Bool.{not};
 ghost use mathlib.Core.List.{List};

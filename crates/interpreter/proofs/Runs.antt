@@ -1,5 +1,4 @@
 -- The laws of a step and of a run: what is fetched, how the next step goes on from an answer, and where a run starts and ends.
--- Assumes nothing.
 use mathlib.Core.Path.{_≡_, refl, ap, subst, _∙_}
 use mathlib.Core.Bool.{Bool, true, false, _||_, true≢false}
 use mathlib.Core.List.{List}

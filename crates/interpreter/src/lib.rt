@@ -1,5 +1,5 @@
 // The interpreter: what is refused, the cleared stack, and steps until the probe ends or its budget is spent. Outcome and
-// stack are those of the machine's definition, on any program bytes and any record. Assumes nothing.
+// stack are those of the machine's definition, on any program bytes and any record.
 ghost use mathlib.Core.Path.{_≡_};
 ghost use Prim.Native.Nat.{ℕ, _+_, _≤_, _<_, _^_};
 ghost use lib.ListN.{length, replicate};

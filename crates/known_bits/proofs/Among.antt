@@ -1,5 +1,4 @@
 -- Pairs of which only the bits are known that their numbers may have: sound where the mask covers every result.
--- Assumes nothing.
 use mathlib.Core.Path.{_≡_, sym, ap, subst}
 use Prim.Native.Nat.{ℕ, _%_, _^_, _≤_, _<_}
 use native.Mathlib.Nat.{zero-mod}

@@ -1,5 +1,5 @@
 -- What pairs and masks are good for: a mask that covers all results is a sound pair, and a pair with exactly the numbers of a set is
--- its best. Assumes nothing.
+-- its best.
 use mathlib.Core.Bool.{Bool, true, false, cond}
 use mathlib.Core.Path.{_≡_, refl, sym, _∙_}
 use Prim.Native.Nat.{ℕ, _%_, _^_, _≤_, _<_}

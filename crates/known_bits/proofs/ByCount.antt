@@ -1,5 +1,5 @@
 -- The best pair for the three shifts at w bits, by a count whose low bits are known, or known but for one: value and mask are shifted
--- alike by each count, and the pairs joined. Assumes nothing.
+-- alike by each count, and the pairs joined.
 use mathlib.Core.Bool.{true}
 use mathlib.Core.Path.{_≡_, sym, ap, _∙_, subst}
 use mathlib.Core.Logic.{_⊎_, inl, inr}

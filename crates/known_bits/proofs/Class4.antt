@@ -1,5 +1,5 @@
 -- The best pair for the cut to v bits, and operations that cut their operands: what is best, or sound, at w bits for operands that are
--- cut is so at 64 bits for the instruction, which cuts them itself. Assumes nothing.
+-- cut is so at 64 bits for the instruction, which cuts them itself.
 use mathlib.Core.Path.{_≡_, refl, sym, ap, ap₂, _∙_, subst}
 use mathlib.Core.Logic.{_⊎_, inl, inr}
 use Prim.Native.Nat.{ℕ, _+_, _-_, _*_, _/_, _%_, _^_, _≤_, _<_}

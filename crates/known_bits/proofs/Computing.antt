@@ -1,5 +1,5 @@
 -- What the formula of each operation promises, at either width: a sound pair, the best one where that is demanded, and the exact one for
--- exact operands. Assumes nothing.
+-- exact operands.
 use mathlib.Core.Bool.{true}
 use mathlib.Core.Path.{_≡_, sym, ap, ap₂, _∙_}
 use mathlib.Core.Logic.{_⊎_}

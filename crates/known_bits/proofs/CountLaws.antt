@@ -1,5 +1,4 @@
 -- Shifts by a count between a least and a greatest one: the pairs that the formulas give are sound.
--- Assumes nothing.
 use mathlib.Core.Path.{_≡_, sym, ap, _∙_, subst}
 use Prim.Native.Nat.{ℕ, _-_, _*_, _/_, _%_, _^_, _≤_, _<_}
 use native.Mathlib.Nat.{mod-le, mul-le-mul-left, le-div-iff-mul-le, div-mul-le-self, le-trans, lt-of-lt-of-le, lt-of-le-of-lt}

@@ -1,5 +1,4 @@
 -- The masks that the code makes cover what they are said to cover: the numbers up to one, the multiples of a power of two.
--- Assumes nothing.
 use mathlib.Core.Path.{_≡_, refl, sym, ap, ap₂, _∙_, subst}
 use Prim.Native.Nat.{ℕ, zero, suc, _+_, _-_, _*_, _/_, _%_, _^_, _≤_, _<_}
 use native.Mathlib.Nat.{mod-lt, zero-mod, lt-of-lt-of-le, lt-of-le-of-lt, mul-mod-left, mod-self}

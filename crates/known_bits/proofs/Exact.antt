@@ -1,5 +1,4 @@
 -- Exact operands give one result: the exact pair of it is the best, and no other pair is.
--- Assumes nothing.
 use mathlib.Core.Path.{_≡_, refl, sym, ap, ap₂, _∙_, subst}
 use Prim.Native.Nat.{ℕ, _^_, _<_}
 use native.Mathlib.Omega.{arith}

@@ -1,5 +1,4 @@
 -- Every formula gives numbers of w bits.
--- Assumes nothing.
 use mathlib.Core.Bool.{cond}
 use mathlib.Core.Path.{_≡_}
 use mathlib.Core.Logic.{_⊎_}

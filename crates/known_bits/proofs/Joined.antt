@@ -1,5 +1,5 @@
 -- The pair where paths join: it loses no number of either, whatever the pairs are, and is the best for pairs that have the form.
--- Of two sets it is the best pair if each pair is the best of its set. Assumes nothing.
+-- Of two sets it is the best pair if each pair is the best of its set.
 use mathlib.Core.Path.{_≡_, _∙_}
 use mathlib.Core.Logic.{_⊎_, inl, inr}
 use Prim.Native.Nat.{ℕ, _+_, _%_, _^_, _<_, max}

@@ -1,5 +1,5 @@
 -- The laws that callers use: between which ends the numbers of a pair lie, what a join covers, that a pair is the same at more bits,
--- that the best pair is the only one, what an exact pair has, and when a pair lies within another. Assumes nothing.
+-- that the best pair is the only one, what an exact pair has, and when a pair lies within another.
 use mathlib.Core.Path.{_≡_, sym, ap, _∙_, subst}
 use mathlib.Core.Logic.{_↔_, inl, inr}
 use Prim.Native.Nat.{ℕ, _%_, _^_, _≤_, _<_}

@@ -1,5 +1,4 @@
 -- What JSET not taken and a meet of two pairs leave: the answer has exactly the numbers that are left, so it is the best.
--- Assumes nothing.
 use mathlib.Core.Path.{_≡_, refl, sym, ap, _∙_}
 use mathlib.Core.Bool.{Bool, true, false, not}
 use Prim.Native.Nat.{ℕ, _-_, _^_, _<_, min, max}

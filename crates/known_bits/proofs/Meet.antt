@@ -1,5 +1,5 @@
 -- What two pairs know together of a number that both have: the meet has the form, and exactly the numbers of both, unless the pairs
--- contradict each other. Assumes nothing.
+-- contradict each other.
 use mathlib.Core.Path.{_≡_, sym, _∙_}
 use Prim.Native.Nat.{ℕ, _<_, min, max}
 use native.Mathlib.Omega.{arith}

@@ -1,5 +1,5 @@
 -- Three theorems that give the best pair: for operations in order digit by digit (AND, OR), for those whose digit is the sum of the digits
--- and a carry from below (ADD, SUB, XOR), and for those that take each digit from one digit (shifts, the cut). Assumes nothing.
+-- and a carry from below (ADD, SUB, XOR), and for those that take each digit from one digit (shifts, the cut).
 use mathlib.Core.Path.{_≡_, refl, sym, ap, _∙_}
 use mathlib.Core.Logic.{_⊎_, inl, inr}
 use Prim.Native.Nat.{ℕ, _+_, _%_, _^_, _≤_, _<_, max}

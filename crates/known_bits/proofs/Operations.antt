@@ -1,5 +1,4 @@
 -- The best pair for ADD, SUB, NEG, AND, OR, XOR and MOV at w bits, for operands of w bits.
--- Assumes nothing.
 use mathlib.Core.Path.{_≡_, refl, sym, ap, _∙_, subst}
 use Prim.Native.Nat.{ℕ, _+_, _%_, _^_, _≤_, _<_}
 use native.Mathlib.Omega.{arith}

@@ -1,5 +1,4 @@
 -- Products of numbers of which nothing but a length is known: the mask alone is the best pair, so that no digit has to be looked at.
--- Assumes nothing.
 use mathlib.Core.Path.{_≡_, sym, ap, ap₂, _∙_, subst}
 use Prim.Native.Nat.{ℕ, _+_, _-_, _*_, _/_, _%_, _^_, _≤_, _<_, min}
 use native.Mathlib.Nat.{mod-eq-of-lt, zero-mul, mul-zero, lt-of-lt-of-le}

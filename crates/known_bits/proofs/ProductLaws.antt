@@ -1,5 +1,4 @@
 -- Products of w bits: no result is more than the formula's bound, and the pair that the formula gives is sound, by each of its three views.
--- Assumes nothing.
 use mathlib.Core.Path.{_≡_, refl, sym, ap, _∙_, subst}
 use Prim.Native.Nat.{ℕ, _+_, _-_, _*_, _%_, _^_, _≤_, _<_}
 use native.Mathlib.Nat.{mod-le, mul-comm, mul-le-mul, le-trans, lt-of-le-of-lt}

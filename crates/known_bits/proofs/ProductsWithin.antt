@@ -1,5 +1,5 @@
 -- How much the product of an instruction knows: no less than shift and add over the digits of either operand, no less than the mask
--- alone, which it was before, and the low zeros of both. With products that are sharper than that mask. Assumes nothing.
+-- alone, which it was before, and the low zeros of both. With products that are sharper than that mask.
 use mathlib.Core.Bool.{Bool, true, false, cond}
 use mathlib.Core.Path.{_≡_, refl, sym, ap, _∙_, subst}
 use mathlib.Core.Logic.{_⊎_, inl, inr}

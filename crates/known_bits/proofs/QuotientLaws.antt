@@ -1,5 +1,5 @@
 -- Quotients and rests of w bits: no result is more than the formula's bound, and the pairs that the formulas give are sound.
--- By a power of two they are the best. Assumes nothing.
+-- By a power of two they are the best.
 use mathlib.Core.Bool.{Bool, true, false, cond, _&&_}
 use mathlib.Core.Path.{_≡_, refl, sym, ap, _∙_, subst}
 use mathlib.Core.Logic.{inl, inr}

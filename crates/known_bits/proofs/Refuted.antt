@@ -1,5 +1,5 @@
 -- The definitions reject wrong answers: one that leaves out a number is not sound, one that covers too much is not best. And the best
--- pairs that were found by enumeration are those of the formulas. Assumes nothing.
+-- pairs that were found by enumeration are those of the formulas.
 use mathlib.Core.Path.{_≡_, refl, ap}
 use mathlib.Core.Bool.{true}
 use mathlib.Core.Logic.{inl, inr}

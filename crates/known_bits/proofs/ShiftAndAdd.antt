@@ -1,5 +1,5 @@
 -- Shift and add: it has every product, its cut to w bits is shift and add at w bits, and the digits that are left change nothing once
--- they are 0, or once all is unknown from the lowest bit on that they can reach. Assumes nothing.
+-- they are 0, or once all is unknown from the lowest bit on that they can reach.
 use mathlib.Core.Bool.{Bool, true, false, cond}
 use mathlib.Core.Path.{_≡_, refl, sym, ap, ap₂, _∙_, subst}
 use mathlib.Core.Logic.{inl, inr}

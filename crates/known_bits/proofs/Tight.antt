@@ -1,5 +1,4 @@
 -- How a pair is shown to be the best: it has every number of the set, and at each bit that it leaves unknown two of them differ.
--- Assumes nothing.
 use mathlib.Core.Path.{_≡_, refl, sym, ap, _∙_}
 use Prim.Native.Nat.{ℕ, zero, suc, _+_, _-_, _%_, _^_, _≤_, _<_, max}
 use native.Mathlib.Omega.{arith}

@@ -1,5 +1,4 @@
 -- What an operation on two pairs promises, for each of the thirteen at either width.
--- Assumes nothing.
 use mathlib.Core.Path.{_≡_}
 use Prim.Native.Nat.{ℕ, _%_}
 use Rattle.word.specs.Word.{alu}

@@ -1,5 +1,4 @@
 -- The pair that each operation gives, as a formula. The code computes these and nothing else; what they promise is proved about them.
--- Assumes nothing.
 use mathlib.Core.Bool.{Bool, cond, _&&_}
 use Prim.Native.Nat.{ℕ, zero, suc, _+_, _-_, _*_, _/_, _%_, _^_}
 use lib.Bits.{bitAnd, bitOr, bitXor}

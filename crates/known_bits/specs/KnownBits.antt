@@ -1,5 +1,5 @@
 -- Known bits. A pair value/mask stands for the numbers of w bits that agree with value outside mask; what is the form of a pair,
--- which numbers it has, and when it is the best one for a set of numbers. Generic in the width. Assumes nothing.
+-- which numbers it has, and when it is the best one for a set of numbers. Generic in the width.
 use mathlib.Core.Path.{_≡_}
 use mathlib.Core.Bool.{false}
 use mathlib.Core.Logic.{_⊎_}

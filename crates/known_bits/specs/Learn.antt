@@ -1,5 +1,4 @@
 -- What a way out of a comparison tells of a pair: a sharper pair, or that no number of the pair goes that way.
--- Assumes nothing.
 use Prim.Native.Nat.{ℕ}
 use Rattle.known_bits.specs.declared.Learnt.{Learnt}
 use Rattle.known_bits.specs.declared.Learnt.the-variants.{Pair, Nothing}

@@ -1,5 +1,4 @@
 -- Masks: sets of bits that a result may have, for the operations whose results are known only by their zeros.
--- Assumes nothing.
 use mathlib.Core.Path.{_≡_}
 use Prim.Native.Nat.{ℕ, _^_, _<_}
 use Rattle.word.specs.Word.{bit}

@@ -1,5 +1,4 @@
 -- The ends of a pair, and the pair that the code builds from a number and a mask.
--- Assumes nothing.
 use Prim.Native.Nat.{ℕ}
 use lib.Bits.{bitOr, bitXor}
 use Rattle.known_bits.specs.declared.Bits.{Bits}

@@ -1,5 +1,4 @@
 -- Which operation of the machine each of the three shifts is.
--- Assumes nothing.
 use Rattle.word.specs.declared.Operation.{Operation}
 use Rattle.word.specs.declared.Operation.the-variants.{Lsh, Rsh, Arsh}
 use Rattle.known_bits.specs.declared.Shift.{Shift}

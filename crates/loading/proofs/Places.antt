@@ -1,5 +1,4 @@
 -- Where a section, a name and the bytes of a text lie, by the answers that name them.
--- Assumes nothing.
 use mathlib.Core.Path.{_≡_, subst}
 use mathlib.Core.List.{List}
 use Prim.Native.Nat.{ℕ, _+_, _≤_}

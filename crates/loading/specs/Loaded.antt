@@ -1,5 +1,4 @@
 -- Where a program that was found lies.
--- Assumes nothing.
 use Prim.Native.Nat.{ℕ, _≤_}
 use Rattle.loading.specs.declared.Loaded.{Loaded}
 use Rattle.loading.specs.declared.Loaded.the-variants.{InFile, Spelled, BadObject, BadDump, Nothing}

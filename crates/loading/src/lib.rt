@@ -1,5 +1,5 @@
 // The bytes of a program in a file: raw bytes, hexadecimal text, or the section of an ELF object; and what is wrong with a file, in a line.
-// All on slices, with no input or output. Assumes nothing.
+// All on slices, with no input or output.
 ghost use Prim.Native.Nat.{_≤_};
 ghost use lib.ListN.{length};
 ghost use Rattle.object.specs.Object.{Answer};

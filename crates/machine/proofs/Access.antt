@@ -1,5 +1,4 @@
 -- The laws by which the code of memory meets the definitions: bytes joined to a word, and where an access lies.
--- Assumes nothing.
 use mathlib.Core.Path.{_≡_, refl, sym, ap, _∙_}
 use mathlib.Core.Bool.{Bool, true, false, cond, _&&_}
 use mathlib.Core.List.{List}

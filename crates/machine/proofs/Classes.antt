@@ -1,5 +1,4 @@
 -- The two classes of arithmetic, and those of jumps, told apart by their width alone.
--- Assumes nothing.
 use mathlib.Core.Path.{_≡_}
 use mathlib.Core.Logic.{_⊎_, _≢_, inl, inr}
 use mathlib.Core.Bool.{cond}

@@ -1,5 +1,4 @@
 -- Eight bytes and the instruction that they are: encode and decode undo one another, and what is decoded is proper.
--- Assumes nothing.
 use mathlib.Core.Path.{_≡_, refl, sym, ap, ap₂, _∙_}
 use mathlib.Core.Bool.{false}
 use mathlib.Core.List.{List, [], _∷_}

@@ -1,5 +1,4 @@
 -- The laws by which the fields of an instruction, fetched piece by piece, are those of the definition.
--- Assumes nothing.
 use mathlib.Core.Path.{_≡_}
 use mathlib.Core.List.{List}
 use Prim.Native.Nat.{ℕ, _+_, _*_, _/_, _%_, _<_}

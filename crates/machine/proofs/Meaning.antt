@@ -1,5 +1,5 @@
 -- What fields mean is no instruction, or a proper one that leads back to the very same fields: a field that an instruction
--- doesn't use must be 0. Assumes nothing.
+-- doesn't use must be 0.
 use mathlib.Core.Path.{_≡_, refl, sym, ap, _∙_}
 use mathlib.Core.Logic.{_⊎_, inl, inr}
 use mathlib.Core.Bool.{Bool, true, false, cond, _&&_, true≢false, and-eq-true-iff}

@@ -1,5 +1,4 @@
 -- Which opcodes decode: 108 of the 256, counted, and no other decodes whatever stands in the other seven bytes.
--- Assumes nothing.
 use mathlib.Core.Path.{_≡_, refl, sym, ap, _∙_}
 use mathlib.Core.Bool.{Bool, true, false, not, cond, _&&_, _||_}
 use mathlib.Core.List.{List, [], _∷_}

@@ -1,5 +1,5 @@
 -- The instructions that there are, and the way back from an instruction to its fields. Here are the definitions,
--- and what makes off and imm come back: a number is the extension of its own low bits. Assumes nothing.
+-- and what makes off and imm come back: a number is the extension of its own low bits.
 use mathlib.Core.Path.{_≡_, refl, sym, ap, _∙_}
 use mathlib.Core.Logic.{_≢_}
 use mathlib.Core.Bool.{Bool, true, false, cond}

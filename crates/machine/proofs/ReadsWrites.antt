@@ -1,5 +1,4 @@
 -- What a step depends on and what it changes: no more than the registers of `reads`, and no register but that of `writes`.
--- Assumes nothing.
 use mathlib.Core.Path.{_≡_, refl, sym, ap, ap₂, _∙_}
 use mathlib.Core.Logic.{_≢_}
 use mathlib.Core.Bool.{Bool, true, false, cond, _||_}

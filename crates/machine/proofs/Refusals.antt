@@ -1,5 +1,4 @@
 -- What is refused before the first step: each rule that a length or an address can break, and nothing else.
--- Assumes nothing.
 use mathlib.Core.Path.{_≡_, refl, ap, subst}
 use mathlib.Core.Logic.{_≢_}
 use mathlib.Core.Bool.{Bool, true, false, not, cond, _&&_, _||_, or-true, and-eq-true-iff}

@@ -1,5 +1,4 @@
 -- The fields of a proper instruction mean that instruction, so no two proper instructions have the same fields.
--- Assumes nothing.
 use mathlib.Core.Path.{_≡_, refl, ap, ap₂, _∙_}
 use mathlib.Core.Logic.{_≢_}
 use Prim.Native.Nat.{ℕ, _+_, _/_, _%_, _≤_, _<_}

@@ -1,5 +1,5 @@
 -- The worked programs of docs/MACHINE.md, section 6, as theorems by computation about the definitions.
--- A program is written as there, eight bytes a numeral. Assumes nothing.
+-- A program is written as there, eight bytes a numeral.
 use mathlib.Core.Path.{_≡_, refl}
 use mathlib.Core.Bool.{cond}
 use mathlib.Core.List.{List, [], _∷_, _++_}

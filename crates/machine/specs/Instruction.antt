@@ -1,5 +1,4 @@
 -- An instruction of docs/MACHINE.md, sections 1 to 4: its eight bytes, what they mean, which registers it reads and writes.
--- Assumes nothing.
 use mathlib.Core.Bool.{Bool, true, false, not, cond, _&&_, _||_}
 use mathlib.Core.List.{List, [], _∷_, _++_}
 use Prim.Native.Nat.{ℕ, _+_, _*_, _/_, _%_}

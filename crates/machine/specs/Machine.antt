@@ -1,5 +1,4 @@
 -- The machine of docs/MACHINE.md, section 5: what one step does, how a run goes, and what is refused before the first step.
--- Assumes nothing.
 use mathlib.Core.Bool.{Bool, true, false, not, cond, _&&_, _||_}
 use mathlib.Core.List.{List, [], _∷_}
 use Prim.Native.Nat.{ℕ, zero, suc, _+_, _-_, _*_, _/_, _%_, _^_}

@@ -1,5 +1,5 @@
 // An instruction, taken out of its eight bytes.
-// Each function is a definition of `specs/`, or the part of one that its contract says. Assumes nothing.
+// Each function is a definition of `specs/`, or the part of one that its contract says.
 ghost use mathlib.Core.Path.{_≡_};
 ghost use mathlib.Core.Bool.{cond, _&&_};
 ghost use Prim.Native.Nat.{_+_, _/_, _%_, _≤_, _<_};

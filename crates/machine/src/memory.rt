@@ -1,5 +1,5 @@
 // Memory as a probe sees it: the record, which it may read, and the stack, which it may read and write.
-// An access is tested here; one that doesn't lie wholly where it may changes nothing. Assumes nothing.
+// An access is tested here; one that doesn't lie wholly where it may changes nothing.
 ghost use mathlib.Core.Path.{_≡_};
 ghost use mathlib.Core.Bool.{cond};
 ghost use Prim.Native.Nat.{ℕ, _+_, _-_, _≤_, _<_, _^_};

@@ -1,5 +1,5 @@
 -- How sharp `refined` is against a number that is known: the new range is the least that covers what goes the way, JSET leaves no bit of
--- the number, and two known numbers stay as they are. Assumes nothing.
+-- the number, and two known numbers stay as they are.
 use mathlib.Core.Path.{_≡_, refl, sym, ap₂, _∙_, subst}
 use mathlib.Core.Bool.{Bool, true, false, not, false≢true, true≢false}
 use Prim.Native.Nat.{ℕ, _+_, _-_, _^_, _≤_, _<_}

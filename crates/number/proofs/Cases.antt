@@ -1,5 +1,4 @@
 -- A definition that tests: what holds of either outcome, given what the test says, holds of what it gives.
--- Assumes nothing.
 use mathlib.Core.Path.{_≡_, refl}
 use mathlib.Core.Bool.{Bool, true, false, cond, _&&_}
 use Prim.Native.Nat.{ℕ, _≤_, _<_}

@@ -1,5 +1,5 @@
 -- The laws of `refined`: it loses no pair of numbers that goes the way, makes neither number wider, and is as sharp as ranges and known
--- bits allow. Assumes nothing.
+-- bits allow.
 use mathlib.Core.Path.{_≡_, sym, subst}
 use mathlib.Core.Bool.{Bool}
 use Prim.Native.Nat.{ℕ, _≤_}

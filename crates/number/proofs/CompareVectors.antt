@@ -1,5 +1,4 @@
 -- What a comparison tells of some numbers, computed: on both sides of each limit.
--- Assumes nothing.
 use mathlib.Core.Path.{_≡_, refl}
 use mathlib.Core.Bool.{true, false}
 use Prim.Native.Nat.{ℕ}

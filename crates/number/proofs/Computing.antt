@@ -1,5 +1,4 @@
 -- Each operation on Numbers: it loses no result, is no wider than its known bits and its range, and exact for exact operands.
--- Assumes nothing.
 use mathlib.Core.Path.{_≡_, refl}
 use mathlib.Core.Bool.{true}
 use mathlib.Core.Logic.{_↔_}

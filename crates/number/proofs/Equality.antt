@@ -1,5 +1,4 @@
 -- What it tells of two numbers that they are equal, and that they are not.
--- Assumes nothing.
 use mathlib.Core.Path.{_≡_, sym}
 use Prim.Native.Nat.{ℕ, _≤_, _<_}
 use native.Mathlib.Nat.{le-trans}

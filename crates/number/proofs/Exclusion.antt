@@ -1,5 +1,5 @@
 -- A way that is not excluded could be gone, by the ranges alone and by the known bits alone: so a way on which no pair of the ranges goes is
--- excluded, and so is one on which no pair of the known bits goes. Assumes nothing.
+-- excluded, and so is one on which no pair of the known bits goes.
 use mathlib.Core.Path.{_≡_, refl, _∙_}
 use mathlib.Core.Bool.{Bool, true, false}
 use Prim.Native.Nat.{ℕ, _^_, _<_, max}

@@ -1,5 +1,4 @@
 -- Numbers and pairs by their halves of 32 bits: the bits of a number with another low half, and pairs with another low half.
--- Assumes nothing.
 use mathlib.Core.Path.{_≡_, sym, ap, _∙_, subst}
 use Prim.Native.Nat.{ℕ, _+_, _-_, _/_, _%_, _^_, _<_, min}
 use native.Mathlib.Decide.{decLt}

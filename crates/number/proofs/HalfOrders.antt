@@ -1,5 +1,4 @@
 -- A comparison of low halves is a comparison of class 5 of what `compared` makes of them: one law for all eleven.
--- Assumes nothing.
 use mathlib.Core.Path.{_≡_, refl}
 use mathlib.Core.Bool.{Bool, true, false}
 use Prim.Native.Nat.{ℕ, _^_, _<_}

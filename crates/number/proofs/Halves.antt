@@ -1,5 +1,5 @@
 -- The laws of `refined32`: it loses no pair of numbers whose low halves go the way, tells nothing of an upper half, makes neither number
--- wider, and decides what is known. Assumes nothing.
+-- wider, and decides what is known.
 use mathlib.Core.Path.{_≡_, refl, sym, ap, ap₂, _∙_, subst}
 use mathlib.Core.Bool.{Bool, true, false, not, cond}
 use mathlib.Core.Logic.{inr}

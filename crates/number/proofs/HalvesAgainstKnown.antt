@@ -1,5 +1,5 @@
 -- How sharp `refined32` is for a number below 2 ^ 32 against a number that is known: the new range is the least that covers the numbers
--- whose low halves go the way. Assumes nothing.
+-- whose low halves go the way.
 use mathlib.Core.Path.{_≡_, refl, ap, _∙_, subst}
 use mathlib.Core.Bool.{Bool, false}
 use mathlib.Core.Logic.{inr}

@@ -1,5 +1,4 @@
 -- What a comparison of low halves tells of some numbers, computed.
--- Assumes nothing.
 use mathlib.Core.Path.{_≡_, refl}
 use mathlib.Core.Bool.{true, false}
 use Prim.Native.Nat.{ℕ}

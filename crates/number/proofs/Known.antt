@@ -1,5 +1,4 @@
 -- Numbers that are known without a calculation: an exact one, what a load gives, and what two paths have in common where they join.
--- Assumes nothing.
 use mathlib.Core.Path.{_≡_, refl}
 use mathlib.Core.Logic.{inl, inr}
 use Prim.Native.Nat.{ℕ, _-_, _*_, _^_, _≤_, _<_, min, max}

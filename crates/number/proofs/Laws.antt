@@ -1,5 +1,4 @@
 -- The laws by which a Number is used from above: nothing that uses them looks inside of one.
--- Assumes nothing.
 
 -- what is known without a calculation, and where paths join
 pub use Rattle.number.proofs.Known.{exact-in, exact-only, loaded-in, joined-covers-left, joined-covers-right}

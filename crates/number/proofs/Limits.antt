@@ -1,5 +1,4 @@
 -- What is asked of the ranges of MOD, AND, OR, XOR, DIV and NEG.
--- Assumes nothing.
 use mathlib.Core.Path.{_≡_, refl, sym, ap, ap₂}
 use Prim.Native.Nat.{ℕ, _/_, _^_, _≤_, _<_}
 use native.Mathlib.Nat.{mod-lt, le-refl, zero-mod}

@@ -1,5 +1,4 @@
 -- What x + gap ≤ y tells of two numbers: nothing is lost, and what is left reaches no further than the other's ends allow.
--- Assumes nothing.
 use Prim.Native.Nat.{ℕ, _+_, _-_, _≤_, min, max}
 use native.Mathlib.Omega.{arith}
 use lib.Dec.{ltb}

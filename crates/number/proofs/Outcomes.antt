@@ -1,5 +1,4 @@
 -- How to reason of what is left on a way: `Kept` and `Left` through the steps by which the definitions make a `Refined`.
--- Assumes nothing.
 use mathlib.Core.Path.{_≡_, refl}
 use mathlib.Core.Bool.{Bool, true, false, cond, _&&_}
 use Prim.Native.Nat.{ℕ, _≤_}

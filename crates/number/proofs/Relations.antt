@@ -1,5 +1,5 @@
 -- What each way out of each comparison says of the two numbers compared: one of a few relations, perhaps with the numbers exchanged.
--- A law is proved once for each relation, not for each comparison and way. Assumes nothing.
+-- A law is proved once for each relation, not for each comparison and way.
 use mathlib.Core.Path.{_≡_, refl, ap}
 use mathlib.Core.Bool.{Bool, true, false, not}
 use mathlib.Core.Logic.{_↔_}

@@ -1,5 +1,4 @@
 -- What an operation is: on words, and at w bits as the low w bits of one on words.
--- Assumes nothing.
 use mathlib.Core.Path.{_≡_, refl, sym, ap, _∙_}
 use Prim.Native.Nat.{ℕ, _+_, _-_, _*_, _/_, _%_, _^_, _≤_, _<_}
 use native.Mathlib.Nat.{zero-mod, mod-mod, mod-le, mod-eq-of-lt, div-le-self, lt-of-le-of-lt, lt-of-lt-of-le}

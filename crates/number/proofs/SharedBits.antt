@@ -1,5 +1,4 @@
 -- What it tells of two numbers that they share a bit, and that they share none.
--- Assumes nothing.
 use mathlib.Core.Path.{_≡_, refl, ap, _∙_}
 use mathlib.Core.Bool.{false}
 use Prim.Native.Nat.{ℕ, _-_, _^_, _<_}

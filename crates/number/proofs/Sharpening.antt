@@ -1,5 +1,5 @@
 -- What is left when a pair and a range sharpen each other: no number of both is lost, neither half gets wider, and the leading bits
--- that the ends have in common are known. Assumes nothing.
+-- that the ends have in common are known.
 use mathlib.Core.Path.{_≡_, sym, ap, _∙_}
 use Prim.Native.Nat.{ℕ, _-_, _/_, _%_, _^_, _≤_, _<_, min, max}
 use native.Mathlib.Nat.{div-eq-of-lt, lt-of-le-of-lt, lt-of-lt-of-le, le-trans}

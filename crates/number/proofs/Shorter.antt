@@ -1,5 +1,5 @@
 -- The operations whose results are no longer than their operands: what they give at w bits is not cut, so that it is the range of the
--- operands cut to w bits itself. Assumes nothing.
+-- operands cut to w bits itself.
 use mathlib.Core.Path.{_≡_, ap}
 use Prim.Native.Nat.{ℕ, _^_, _≤_, _<_}
 use native.Mathlib.Nat.{lt-of-le-of-lt, le-trans, le-of-eq}

@@ -1,5 +1,4 @@
 -- What a signed order tells: it is the order of the numbers moved by 2 ^ 63, and what that one tells is moved back.
--- Assumes nothing.
 use mathlib.Core.Path.{_≡_, refl, sym, ap, _∙_, subst}
 use mathlib.Core.Logic.{inl}
 use Prim.Native.Nat.{ℕ, _+_, _-_, _/_, _%_, _^_, _≤_, _<_}

@@ -1,5 +1,4 @@
 -- ADD and SUB have exactly the ends that are asked for: where no pair wraps, where every pair does, and all numbers otherwise.
--- Assumes nothing.
 use mathlib.Core.Path.{_≡_, refl, ap, _∙_}
 use mathlib.Core.Logic.{inl, inr}
 use Prim.Native.Nat.{ℕ, _+_, _-_, _*_, _%_, _^_, _≤_, _<_}

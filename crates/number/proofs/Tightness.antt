@@ -1,5 +1,4 @@
 -- Which ranges are the least wide that have all results: those whose ends are results themselves.
--- Assumes nothing.
 use mathlib.Core.Path.{refl}
 use mathlib.Core.Logic.{_⊎_, inl, inr}
 use Prim.Native.Nat.{ℕ, _+_, _*_, _^_, _≤_, _<_}

@@ -1,5 +1,5 @@
 -- Numbers computed, on both sides of the limits at which a range becomes unknown. Each field is a theorem by computation; they stand in
--- one record because they unfold the same definitions. Assumes nothing.
+-- one record because they unfold the same definitions.
 use mathlib.Core.Path.{_≡_, refl}
 use mathlib.Core.Bool.{true, false}
 use Prim.Native.Nat.{ℕ, _+_, _-_, _^_}

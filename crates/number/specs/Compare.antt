@@ -1,5 +1,4 @@
 -- What a way out of a comparison tells of the two numbers compared: that no pair of them goes it, or a sharper pair.
--- Assumes nothing.
 use mathlib.Core.Bool.{Bool, true, false, cond, _&&_}
 use Prim.Native.Nat.{ℕ, _+_, _-_, _^_, min, max}
 use lib.Bits.{bitAnd}

@@ -1,5 +1,5 @@
 -- Each operation of the machine on Numbers, at 64 bits (class 7) and at 32 (class 4): the known bits of `known_bits`, the range of the
--- operands cut to the width, and each sharpens the other. Assumes nothing.
+-- operands cut to the width, and each sharpens the other.
 use mathlib.Core.Bool.{Bool, cond}
 use Prim.Native.Nat.{ℕ, _+_, _-_, _/_, _%_, _^_, min, max}
 use lib.Dec.{eqb, leb}

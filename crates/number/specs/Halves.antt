@@ -1,5 +1,5 @@
 -- What a way out of a comparison of the low 32 bits (class 6) tells of the two whole numbers: their low halves are sharpened, and nothing
--- is told of the upper ones. Assumes nothing.
+-- is told of the upper ones.
 use mathlib.Core.Path.{_≡_}
 use mathlib.Core.Bool.{Bool, true, false, cond}
 use Prim.Native.Nat.{ℕ, _+_, _*_, _/_, _%_, _^_, _≤_}

@@ -1,5 +1,4 @@
 -- Which numbers a range and a Number stand for, and what it means that one says no less than another.
--- Assumes nothing.
 use mathlib.Core.Path.{_≡_}
 use mathlib.Core.Bool.{Bool}
 use Prim.Native.Nat.{ℕ, _^_, _≤_, _<_}

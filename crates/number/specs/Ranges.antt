@@ -1,5 +1,5 @@
 -- The range that each operation gives for two ranges: the ends that the results have where no result wraps or all do, and all numbers
--- otherwise. Assumes nothing.
+-- otherwise.
 use mathlib.Core.Bool.{Bool, cond, _&&_}
 use Prim.Native.Nat.{ℕ, _+_, _-_, _*_, _/_, _%_, _^_, min, max}
 use lib.Bits.{bitOr}

@@ -1,5 +1,4 @@
 -- A Number from a pair and a range: each half sharpens the other.
--- Assumes nothing.
 use Prim.Native.Nat.{ℕ, _*_, _-_, _^_, min, max}
 use lib.Bits.{bitAnd, bitOr, bitXor}
 use Rattle.known_bits.specs.declared.Bits.{Bits}

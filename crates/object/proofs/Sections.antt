@@ -1,5 +1,4 @@
 -- What an answer of each kind says, and what makes a section's bytes an answer.
--- Assumes nothing.
 use mathlib.Core.Bool.{Bool, true, false, _&&_}
 use mathlib.Core.List.{List}
 use mathlib.Core.Path.{_≡_, refl}

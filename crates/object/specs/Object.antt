@@ -1,5 +1,4 @@
 -- The fields of an ELF object, and what a section that holds a program is.
--- Assumes nothing.
 use mathlib.Core.Path.{_≡_}
 use mathlib.Core.Bool.{Bool, true, _&&_}
 use mathlib.Core.List.{List}

@@ -1,5 +1,5 @@
 // A 64-bit little-endian relocatable ELF object for BPF, and where the bytes of its program lie.
-// The definitions that the contracts cite are in `specs/`. Assumes nothing.
+// The definitions that the contracts cite are in `specs/`.
 ghost use mathlib.Core.Bool.{true};
 ghost use mathlib.Core.Path.{_≡_};
 ghost use Prim.Native.Nat.{_+_, _*_, _<_};

@@ -1,5 +1,4 @@
 // The names of sections: each is the text up to a 0 byte, inside of one section that holds them all.
-// Assumes nothing.
 ghost use Prim.Native.Nat.{_+_, _*_, _≤_};
 ghost use lib.ListN.{length};
 ghost use Rattle.object.specs.Object.{Named};

@@ -1,5 +1,4 @@
 // The ELF header, and the section headers that it names.
-// Assumes nothing.
 ghost use mathlib.Core.Bool.{true};
 ghost use mathlib.Core.Path.{_≡_};
 ghost use Prim.Native.Nat.{_+_, _*_, _≤_, _<_};

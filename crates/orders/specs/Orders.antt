@@ -1,5 +1,4 @@
 -- When the pieces of an answer lie inside of the arguments.
--- Assumes nothing.
 use Prim.Native.Nat.{ℕ, _≤_, _<_}
 use Rattle.orders.specs.declared.Span.{Span}
 use Rattle.orders.specs.declared.Order.{Order}

@@ -1,5 +1,5 @@
 // What a unit calls: a program is verified and, if it is accepted, run. That an accepted program ends as it must is a consequence of the
-// contracts of `verify` and `interpret` and of the theorem about the analysis. Assumes nothing.
+// contracts of `verify` and `interpret` and of the theorem about the analysis.
 mod exported;
 
 ghost use lib.ListN.{length};

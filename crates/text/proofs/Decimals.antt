@@ -1,5 +1,4 @@
 -- The digits that `io::decimal` makes are those of the definition, and at most 20.
--- Assumes nothing.
 use mathlib.Core.Bool.{Bool, true, false, cond}
 use mathlib.Core.List.{List, [], _∷_, _++_}
 use mathlib.Core.Path.{_≡_, _∙_}

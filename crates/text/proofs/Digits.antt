@@ -1,5 +1,4 @@
 -- The seven cases of `digit`, in the order of the characters.
--- Assumes nothing.
 use mathlib.Core.Path.{_≡_}
 use Prim.Native.Nat.{ℕ, _≤_, _<_, _-_}
 use native.Mathlib.Omega.{arith}

@@ -1,5 +1,4 @@
 -- What one more character does to the text that is stripped, and to the number of line ends; what the answers of the pairs say of the text.
--- Assumes nothing.
 use mathlib.Core.Bool.{Bool, false}
 use mathlib.Core.List.{List, [], _∷_, _++_, append-nil}
 use mathlib.Core.Path.{_≡_, refl, sym, ap, _∙_}

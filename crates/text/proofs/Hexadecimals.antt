@@ -1,5 +1,4 @@
 -- The digits that `io::hex` makes are those of the definition, and at most 16.
--- Assumes nothing.
 use mathlib.Core.Bool.{Bool, true, false, cond}
 use mathlib.Core.List.{List, [], _∷_, _++_}
 use mathlib.Core.Path.{_≡_, _∙_}

@@ -1,5 +1,4 @@
 -- Texts put one after the other are one text put; what is put where there is room for it, and where there is none.
--- Assumes nothing.
 use mathlib.Core.Bool.{Bool, true, false}
 use mathlib.Core.List.{List, [], _∷_, _++_}
 use mathlib.Core.Path.{_≡_, refl, sym, ap, _∙_}

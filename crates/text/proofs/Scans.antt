@@ -1,5 +1,4 @@
 -- What one more character does to a search, and to a comparison.
--- Assumes nothing.
 use mathlib.Core.Bool.{true, false}
 use mathlib.Core.List.{List, [], _∷_}
 use mathlib.Core.Path.{_≡_, refl, ap, _∙_}

@@ -1,5 +1,4 @@
 -- The definitions computed on short texts: what is a number, what are bytes, what is neither, and a number written.
--- Assumes nothing.
 use mathlib.Core.List.{List, [], _∷_}
 use mathlib.Core.Path.{_≡_, refl}
 use Prim.Native.Nat.{ℕ, _-_, _^_}

@@ -1,5 +1,4 @@
 -- Text put into a buffer, and numbers written in decimal and in hexadecimal.
--- Assumes nothing.
 use mathlib.Core.Bool.{cond}
 use mathlib.Core.List.{List, [], _∷_, _++_}
 use mathlib.Core.Path.{_≡_}

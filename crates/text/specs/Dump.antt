@@ -1,5 +1,4 @@
 -- Hexadecimal text with blanks and comments, and the digits that are left without them.
--- Assumes nothing.
 use mathlib.Core.Bool.{Bool, true, false, cond, _||_}
 use mathlib.Core.List.{List, [], _∷_, _++_}
 use mathlib.Core.Path.{_≡_}

@@ -1,5 +1,4 @@
 -- The two numbers that a word spells, with a stroke between them.
--- Assumes nothing.
 use mathlib.Core.Bool.{cond}
 use mathlib.Core.List.{List}
 use Prim.Native.Nat.{ℕ, _+_}

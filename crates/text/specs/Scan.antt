@@ -1,5 +1,4 @@
 -- Runs of a character at the start of a text, and when two texts are the same.
--- Assumes nothing.
 use mathlib.Core.Bool.{Bool, true, false, cond, _&&_}
 use mathlib.Core.List.{List, [], _∷_}
 use mathlib.Core.Path.{_≡_}

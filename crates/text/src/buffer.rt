@@ -1,5 +1,4 @@
 // Text put into a lent buffer from an index on. What finds no room is left out, so an answer that is the buffer's length may be cut.
-// Assumes nothing.
 ghost use mathlib.Core.List.{[], _∷_};
 ghost use Rattle.text.specs.Buffer.{Put, decimal, hexadecimal};
 

@@ -1,5 +1,5 @@
 // Bytes read from hexadecimal text of many lines: pairs of digits, with blanks anywhere between digits, and comments from `#` to the line end.
-// Blanks and comments are stripped first, so that the pairs are read as those of one word. Assumes nothing.
+// Blanks and comments are stripped first, so that the pairs are read as those of one word.
 ghost use mathlib.Core.List.{List, [], _∷_};
 ghost use mathlib.Core.Path.{_≡_};
 ghost use Prim.Native.Nat.{ℕ, _+_, _≤_};

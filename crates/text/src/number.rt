@@ -1,5 +1,4 @@
 // Numbers read from text. A function for each base: a sum with a literal base is one that the search bounds.
-// Assumes nothing.
 ghost use mathlib.Core.Path.{_≡_};
 ghost use Prim.Native.Nat.{_≤_};
 ghost use lib.ListN.{length};

@@ -1,5 +1,5 @@
 // Text put at an index inside of a lent buffer: the index after it is inside too, so one piece follows another with nothing to prove.
-// An answer that is the buffer's length may be cut. Assumes nothing.
+// An answer that is the buffer's length may be cut.
 ghost use Prim.Native.Nat.{_≤_};
 ghost use lib.ListN.{length};
 use crate::buffer::put;

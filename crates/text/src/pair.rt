@@ -1,5 +1,4 @@
 // Two numbers read from one word, with a stroke between them.
-// Assumes nothing.
 ghost use mathlib.Core.Path.{_≡_};
 ghost use Rattle.text.specs.Pair.{joined, pair};
 use crate::number::Number;

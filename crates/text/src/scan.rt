@@ -1,5 +1,4 @@
 // Where a character stands in a text, and whether two texts are the same.
-// Assumes nothing.
 ghost use mathlib.Core.Path.{_≡_};
 ghost use Prim.Native.Nat.{_≤_};
 ghost use lib.ListN.{length, drop};

@@ -1,5 +1,5 @@
 -- The verifier's answer: what is judged, but for scratch memory that is too small, which is answered after the tests on form and before any
--- test on values. Assumes nothing.
+-- test on values.
 use mathlib.Core.Path.{_≡_}
 use mathlib.Core.Bool.{Bool, true, false, cond, not, _&&_}
 use mathlib.Core.List.{List}

@@ -1,5 +1,5 @@
 // The test for dead code: one pass over the jump graph, with a bit for each index that a jump goes to. It looks at opcode and off only, since
-// the tests at each index have been passed, and needs no scratch memory. Assumes nothing.
+// the tests at each index have been passed, and needs no scratch memory.
 ghost use mathlib.Core.Path.{_≡_};
 ghost use Prim.Native.Nat.{_/_, _≤_, _<_};
 ghost use lib.ListN.{length};

@@ -1,5 +1,5 @@
 // States are sent: the state of an index comes to a later index, where it is copied or joined to what waits there. To send it with a
-// register changed, the register is changed in place, and its words are put back afterwards. Assumes nothing.
+// register changed, the register is changed in place, and its words are put back afterwards.
 ghost use mathlib.Core.Path.{_≡_};
 ghost use mathlib.Core.Bool.{cond};
 ghost use mathlib.Core.Option.{some};

@@ -1,5 +1,5 @@
 -- The laws of `bit`: of the operations bit by bit, of sums and differences with the carry and the borrow from below, of shifts,
--- and that numbers with the same bits are equal. Assumes nothing.
+-- and that numbers with the same bits are equal.
 use mathlib.Core.Path.{_≡_, refl, sym, ap, ap₂, _∙_, subst}
 use Prim.Native.Nat.{ℕ, zero, suc, _+_, _-_, _*_, _/_, _%_, _^_, _≤_, _<_, min, max}
 use native.Mathlib.Nat.{mod-lt, zero-div, pow-succ', le-of-eq, zero-lt-suc, mul-add-div-right, div-eq-of-lt, div-lt-iff-lt-mul, mul-le-mul-right, mul-div-cancel, mul-mod-left, div-self, div-mul-le-self, lt-div-mul-add, mod-one, mod-eq-of-lt}

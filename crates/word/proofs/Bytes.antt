@@ -1,5 +1,5 @@
 -- The laws of `readBytes` and `writeBytes`: what is read after a write, what a write leaves alone, and a read or a write in two
--- parts. Assumes nothing.
+-- parts.
 use mathlib.Core.Path.{_≡_, refl, sym, ap, ap₂, _∙_}
 use mathlib.Core.List.{List, [], _∷_}
 use Prim.Native.Nat.{ℕ, zero, suc, _+_, _*_, _/_, _%_, _^_, _≤_, _<_}

@@ -1,5 +1,4 @@
 -- The laws of `cut`: the low w bits of a number, of a product and of a difference, and the product of two words by their halves.
--- Assumes nothing.
 use mathlib.Core.Path.{_≡_, sym, ap, ap₂, _∙_}
 use Prim.Native.Nat.{ℕ, _+_, _-_, _*_, _/_, _%_, _^_, _≤_, _<_}
 use native.Mathlib.Nat.{mod-lt, mod-mod, mod-eq-of-lt, add-mod-mod, add-mul-mod-self-right, div-add-mod', mul-comm, mul-le-mul, lt-of-le-of-lt}

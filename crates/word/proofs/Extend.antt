@@ -1,5 +1,5 @@
 -- The laws of `extend`, `moved` and `shiftSigned`: below half the range and from half the range on, and what the code computes
--- in their place. Assumes nothing.
+-- in their place.
 use mathlib.Core.Path.{_≡_, sym, ap, _∙_}
 use Prim.Native.Nat.{ℕ, _+_, _-_, _/_, _%_, _^_, _≤_, _<_}
 use native.Mathlib.Nat.{mod-eq-of-lt, mod-eq-sub-mod, lt-of-lt-of-le, lt-of-le-of-lt}

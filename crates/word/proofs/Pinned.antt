@@ -1,5 +1,5 @@
 -- Every definition of `specs/Word.antt` held to a characterisation that does not share its text: a mistake there would be consistent
--- everywhere else. Width w throughout; d % 2 ^ w is the low w bits of d. Assumes nothing.
+-- everywhere else. Width w throughout; d % 2 ^ w is the low w bits of d.
 use mathlib.Core.Path.{_≡_, refl, sym, ap, _∙_}
 use mathlib.Core.Bool.{Bool, true, false, not, cond}
 use mathlib.Core.List.{List}

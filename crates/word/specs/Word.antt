@@ -1,5 +1,5 @@
 -- Numbers of w bits: what the operations and comparisons of the machine give, signs, bits, and numbers as bytes.
--- One definition serves every width; the machine has w = 64 and w = 32. Assumes nothing.
+-- One definition serves every width; the machine has w = 64 and w = 32.
 use mathlib.Core.Bool.{Bool, true, false, not, cond}
 use mathlib.Core.List.{List}
 use Prim.Native.Nat.{ℕ, zero, suc, _+_, _-_, _*_, _/_, _%_, _^_}

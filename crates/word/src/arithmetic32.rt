@@ -1,5 +1,5 @@
 // The operations of class 4, on 32 bits: both operands are cut first, and the upper half of the result is 0.
-// Each contract is a line of `alu 32`. Assumes nothing.
+// Each contract is a line of `alu 32`.
 ghost use mathlib.Core.Path.{_≡_};
 ghost use Prim.Native.Nat.{ℕ};
 ghost use Rattle.word.specs.Word.{alu};

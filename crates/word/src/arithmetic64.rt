@@ -1,5 +1,5 @@
 // The operations of class 7, on 64 bits.
-// Each contract is a line of `alu 64`. Assumes nothing.
+// Each contract is a line of `alu 64`.
 ghost use mathlib.Core.Path.{_≡_};
 ghost use Prim.Native.Nat.{ℕ};
 ghost use Rattle.word.specs.Word.{alu};

@@ -1,5 +1,4 @@
 // An operation or a comparison of words, told by its name.
-// Assumes nothing.
 ghost use mathlib.Core.Path.{_≡_};
 ghost use Rattle.word.specs.Word as defined;
 use crate::Comparison;

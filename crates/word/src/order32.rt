@@ -1,5 +1,5 @@
 // The comparisons of the low 32 bits; the S forms take bit 31 as the sign.
-// Each contract is a line of `compare 32`. Assumes nothing.
+// Each contract is a line of `compare 32`.
 ghost use mathlib.Core.Path.{_≡_};
 ghost use Rattle.word.specs.Word.{compare, cut, moved};
 use crate::Comparison;

@@ -1,5 +1,5 @@
 // The comparisons, on 64 bits.
-// Each contract is a line of `compare 64`. Assumes nothing.
+// Each contract is a line of `compare 64`.
 ghost use mathlib.Core.Path.{_≡_};
 ghost use Rattle.word.specs.Word.{compare, cut, moved};
 use crate::Comparison;

@@ -1,5 +1,5 @@
 // Signs: the low bits of a word extended to 64 bits, each by one addition and one subtraction of half the range.
-// Each contract is `extend` at its width. Assumes nothing.
+// Each contract is `extend` at its width.
 ghost use mathlib.Core.Path.{_≡_};
 ghost use Rattle.word.specs.Word.{extend};
 

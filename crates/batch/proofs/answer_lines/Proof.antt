@@ -1,5 +1,5 @@
 -- `answer_lines` stays inside the window and the buffers. The loop keeps the line's start between `at` and `end`, and the lengths of what is lent.
--- The measure is the number of bytes left. Assumes nothing.
+-- The measure is the number of bytes left.
 use mathlib.Core.Path.{_≡_}
 use Prim.Native.Nat.{_-_, _≤_}
 use lib.ListN.{length}

@@ -1,5 +1,5 @@
 -- `serve` stays inside the window. The loop keeps that what is held fits, and the lengths of what is lent.
--- The measure is the number of reads left. Assumes nothing.
+-- The measure is the number of reads left.
 use mathlib.Core.Path.{_≡_}
 use Prim.Native.Nat.{_-_, _≤_}
 use lib.ListN.{length}

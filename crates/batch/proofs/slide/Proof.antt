@@ -1,5 +1,5 @@
 -- `slide` stays inside the window. The loop keeps the index between `at` and `end`.
--- The measure is the number of bytes left. Assumes nothing.
+-- The measure is the number of bytes left.
 use mathlib.Core.Path.{_≡_}
 use Prim.Native.Nat.{_-_, _≤_}
 use lib.ListN.{length}

@@ -1,5 +1,4 @@
 -- `bad_address` is the definition, test by test.
--- Assumes nothing.
 use mathlib.Core.Path.{refl}
 use Rattle.machine.specs.Machine.{badAddress}
 use Rattle.interpreter.proofs.bad_address.Statement.{statement}

@@ -1,5 +1,4 @@
 -- `bad_program` is the definition, test by test.
--- Assumes nothing.
 use mathlib.Core.Path.{refl}
 use Rattle.machine.specs.Machine.{badProgram}
 use Rattle.interpreter.proofs.bad_program.Statement.{statement}

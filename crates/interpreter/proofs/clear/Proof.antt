@@ -1,5 +1,4 @@
 -- `clear`: what was passed is 0, and what comes is as it was. The measure is what is left of the length.
--- Assumes nothing.
 use mathlib.Core.Path.{_≡_, refl, _∙_}
 use mathlib.Core.List.{_++_, append-nil}
 use Prim.Native.Nat.{_-_, _≤_}

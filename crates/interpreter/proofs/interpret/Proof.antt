@@ -1,5 +1,4 @@
 -- `interpret`: a refusal, or the run on the cleared stack.
--- Assumes nothing.
 use mathlib.Core.Path.{sym, ap, _∙_}
 use Prim.Native.Nat.{ℕ}
 use lib.ListN.{replicate}

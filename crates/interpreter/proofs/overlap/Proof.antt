@@ -1,5 +1,4 @@
 -- `overlap` is the definition, test by test.
--- Assumes nothing.
 use mathlib.Core.Path.{refl}
 use Rattle.machine.specs.Machine.{overlap}
 use borrow.Author.Needs.{needs}

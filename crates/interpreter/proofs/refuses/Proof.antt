@@ -1,5 +1,4 @@
 -- `refuses`: the first test that holds decides; where none does, both addresses are low enough to add to.
--- Assumes nothing.
 use mathlib.Core.Path.{sym, _∙_}
 use native.Mathlib.Omega.{arith}
 use borrow.Author.Tests.{lt-ltb, le-ltb, eq-eqb, ne-eqb}

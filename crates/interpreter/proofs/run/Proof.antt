@@ -1,5 +1,4 @@
 -- `run`: what is left of the run from here is the whole run, by `Leads` of each step. The measure is what is left of the budget.
--- Assumes nothing.
 use mathlib.Core.Path.{_≡_, refl, _∙_}
 use Prim.Native.Nat.{_-_, _^_, _≤_, _<_}
 use native.Mathlib.Omega.{arith}

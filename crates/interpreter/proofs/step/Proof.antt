@@ -1,5 +1,4 @@
 -- `step`: off the end, or what `obey` leads to, on the fields that were fetched.
--- Assumes nothing.
 use mathlib.Core.Path.{sym}
 use Rattle.dispatch.proofs.Answers.{leads-to, leads-fault}
 use Rattle.interpreter.proofs.Runs.{step-off, step-at}

@@ -1,5 +1,5 @@
 -- `parse_words` keeps the pieces inside of the arguments, and the index of the next word beside them.
--- The measure is what is left of the arguments. Assumes nothing.
+-- The measure is what is left of the arguments.
 use mathlib.Core.Path.{_≡_, refl}
 use Prim.Native.Nat.{_-_}
 use native.Mathlib.Omega.{arith}
@@ -16,18 +16,12 @@ Inv-loop args verb from allowed p₀ next₀ p next = Sane (length args) p × (n
 abbrev μ-loop : tie.MeasureT-loop
 μ-loop args verb from allowed p₀ next₀ p next = length args - next
 
-stopped-requires : tie.Need-stopped-requires Inv-loop μ-loop
-stopped-requires c κs = rw (c .before .before .before .loop .inv .1) (c .before .take-word .ensures)
-
-loop-less : tie.Need-loop-less Inv-loop μ-loop
-loop-less c = omega (arith, (step-goes (c .before .before .before .take-word .ensures) (c .before .step .given .1)) .further, (step-goes (c .before .before .before .take-word .ensures) (c .before .step .given .1)) .sane .next)
-
-loop-again : tie.Need-loop-again Inv-loop μ-loop
-loop-again c = ((step-goes (c .before .before .before .take-word .ensures) (c .before .step .given .1)) .sane, refl)
-
 pub parse-words-spec : {M : Type 1} → statement M
 parse-words-spec =
     tie.close
     (tie.spec
     Inv-loop μ-loop (λ c κs. search needs) (λ c. search needs) (λ c κs. search needs) (λ c. search needs)
-    stopped-requires (λ c. search needs) loop-less loop-again (λ c κs. search needs) (λ c. search needs))
+    (λ c κs. rw (c .before .before .before .loop .inv .1) (c .before .take-word .ensures)) (λ c. search needs)
+    (λ c. omega (arith, (step-goes (c .before .before .before .take-word .ensures) (c .before .step .given .1)) .further, (step-goes (c .before .before .before .take-word .ensures) (c .before .step .given .1)) .sane .next))
+    (λ c. ((step-goes (c .before .before .before .take-word .ensures) (c .before .step .given .1)) .sane, refl)) (λ c κs. search needs)
+    (λ c. search needs))

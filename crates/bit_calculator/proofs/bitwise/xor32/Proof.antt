@@ -1,13 +1,9 @@
 -- `xor32` is the formula.
--- Assumes nothing.
 use Rattle.known_bits.specs.Formula.{parity}
 use borrow.Author.Needs.{needs}
 use Rattle.bit_calculator.proofs.bitwise.xor32.Statement.{statement}
 use Rattle.bit_calculator.proofs.bitwise.xor32.Tie as tie
 
-returns : tie.Need-returns
-unfolding parity
-returns c = cc
-
 pub xor32-spec : {M : Type 1} → statement M
-xor32-spec = tie.close (tie.spec (λ c κs. search needs) (λ c κs. search needs) returns)
+unfolding parity
+xor32-spec = tie.close (tie.spec (λ c κs. search needs) (λ c κs. search needs) (λ c. cc))

@@ -1,5 +1,4 @@
 -- `left_mask` is the formula: one shifted by a count is a power of two.
--- Assumes nothing.
 use native.Mathlib.Omega.{arith}
 use mathlib.Core.Path.{ap, ap₂, _∙_}
 use Prim.Native.Nat.{ℕ, _+_}
@@ -10,9 +9,6 @@ use Rattle.bit_calculator.proofs.Words.{one-shifted-is-the-power}
 use borrow.Author.Needs.{needs}
 use Rattle.bit_calculator.proofs.counts.left_mask.Statement.{statement}
 use Rattle.bit_calculator.proofs.counts.left_mask.Tie as tie
-
-add-from-bit : tie.Need-add-from-bit
-add-from-bit c = record { fits = omega (arith, trailing-le 64 (c .before .args .t)) }
 
 returns : tie.Need-returns
 unfolding leftMask highestShifted
@@ -26,5 +22,5 @@ pub left-mask-spec : {M : Type 1} → statement M
 left-mask-spec =
     tie.close
     (tie.spec
-    (λ c κs. search needs) add-from-bit (λ c κs. search needs) (λ c. search needs) (λ c κs. search needs)
-    (λ c κs. search needs) returns)
+    (λ c κs. search needs) (λ c. record { fits = omega (arith, trailing-le 64 (c .before .args .t)) }) (λ c κs. search needs)
+    (λ c. search needs) (λ c κs. search needs) (λ c κs. search needs) returns)

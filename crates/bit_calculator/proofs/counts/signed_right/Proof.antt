@@ -1,5 +1,4 @@
 -- `signed_right` by the sign of the least and the greatest number.
--- Assumes nothing.
 use native.Mathlib.Omega.{arith}
 use mathlib.Core.Path.{sym, ap, _∙_}
 use lib.Pow.{pow-pos}
@@ -43,5 +42,5 @@ pub signed-right-spec : {M : Type 1} → statement M
 signed-right-spec =
     tie.close
     (tie.spec
-    (λ c. search needs) (λ c κs. search needs) returns returns-2 (λ c κs. search needs) (λ c. search needs)
-    (λ c κs. search needs) (λ c κs. search needs) returns-3)
+    (λ c. search needs) (λ c κs. search needs) returns returns-2 (λ c κs. search needs) (λ c. search needs) (λ c κs. search needs)
+    (λ c κs. search needs) returns-3)

@@ -1,5 +1,4 @@
 -- `unknown64`: each shift by the ends of its operands.
--- Assumes nothing.
 use native.Mathlib.Omega.{arith}
 use mathlib.Core.Path.{refl, ap, _∙_}
 use lib.Dec.{lit<}
@@ -17,17 +16,11 @@ unfolding operation shiftedUnknown low among cut
 returns c =
     rw (c .before .enum-told .given .1) (low-same 64 (among (c .left-mask .result)) (omega arith) (omega arith) ∙ ap (λ (m : ℕ). low 64 (among m)) (c .left-mask .ensures))
 
-returns-2 : tie.Need-returns-2
-unfolding operation shiftedUnknown among
-returns-2 c = rw (c .before .enum-told2 .given .1) (ap among (c .up-to .ensures))
-
-returns-3 : tie.Need-returns-3
-unfolding operation shiftedUnknown
-returns-3 c = rw (c .before .enum-told3 .given .1) (c .signed-right .ensures 64 (lit< tt) refl)
-
 pub unknown64-spec : {M : Type 1} → statement M
+unfolding operation shiftedUnknown among
 unknown64-spec =
     tie.close
     (tie.spec
-    (λ c. search needs) (λ c κs. search needs) (λ c. search needs) (λ c. search needs) (λ c κs. search needs)
-    (λ c. search needs) (λ c κs. search needs) returns returns-2 returns-3)
+    (λ c. search needs) (λ c κs. search needs) (λ c. search needs) (λ c. search needs) (λ c κs. search needs) (λ c. search needs)
+    (λ c κs. search needs) returns (λ c. rw (c .before .enum-told2 .given .1) (ap among (c .up-to .ensures)))
+    (λ c. rw (c .before .enum-told3 .given .1) (c .signed-right .ensures 64 (lit< tt) refl)))

@@ -1,5 +1,4 @@
 -- `jset_not_taken` by whether a known bit is shared.
--- Assumes nothing.
 use native.Mathlib.Omega.{arith}
 use mathlib.Core.Path.{_≡_, sym, subst}
 use lib.Bits.{bitAnd, bitOr, bitXor}

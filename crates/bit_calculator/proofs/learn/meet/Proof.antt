@@ -1,5 +1,4 @@
 -- `meet` by whether the known bits agree.
--- Assumes nothing.
 use native.Mathlib.Omega.{arith}
 use mathlib.Core.Path.{_≡_, sym, subst}
 use lib.Bits.{bitAnd, bitOr}

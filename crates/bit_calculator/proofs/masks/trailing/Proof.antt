@@ -1,13 +1,9 @@
 -- No number of 64 bits has more than 64 low zeros.
--- Assumes nothing.
 use native.Mathlib.Omega.{arith}
 use lib.Count.{trailing-le}
 use borrow.Author.Needs.{needs}
 use Rattle.bit_calculator.proofs.masks.trailing.Statement.{statement}
 use Rattle.bit_calculator.proofs.masks.trailing.Tie as tie
 
-cast-result : tie.Need-cast-result
-cast-result c = record { fits = omega (arith, trailing-le 64 (c .args .t)) }
-
 pub trailing-spec : {M : Type 1} → statement M
-trailing-spec = tie.close (tie.spec cast-result (λ c. search needs))
+trailing-spec = tie.close (tie.spec (λ c. record { fits = omega (arith, trailing-le 64 (c .args .t)) }) (λ c. search needs))

@@ -1,5 +1,4 @@
 -- `alu32` is the formula for operands that are cut; what it promises is a law.
--- Assumes nothing.
 use mathlib.Core.Path.{refl, sym, ap₂, _∙_, subst}
 use mathlib.Core.Logic.{inr}
 use Rattle.known_bits.specs.declared.Bits.{Bits}

@@ -1,5 +1,4 @@
 -- `alu64` is the formula, since a word is cut to itself; what the formula promises is a law.
--- Assumes nothing.
 use mathlib.Core.Path.{refl, sym, ap₂, _∙_, subst}
 use mathlib.Core.Logic.{inl}
 use Rattle.known_bits.specs.declared.Bits.{Bits}

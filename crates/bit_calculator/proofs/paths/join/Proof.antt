@@ -1,5 +1,4 @@
 -- `join` is the formula, which gives the best pair for the numbers of either, and covers both whatever the pairs are.
--- Assumes nothing.
 use native.Mathlib.Omega.{arith}
 use mathlib.Core.Path.{sym, subst}
 use Rattle.known_bits.specs.declared.Bits.{Bits}

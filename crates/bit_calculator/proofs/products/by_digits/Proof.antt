@@ -1,5 +1,4 @@
 -- `by_digits` is the low bits of the three views.
--- Assumes nothing.
 use Rattle.bit_calculator.proofs.ProductCuts.{three-views-cut}
 use borrow.Author.Needs.{needs}
 use Rattle.bit_calculator.proofs.products.by_digits.Statement.{statement}

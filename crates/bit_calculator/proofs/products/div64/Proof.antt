@@ -1,5 +1,4 @@
 -- `div64` by whether both operands are known, and whether the divisor is a power of two.
--- Assumes nothing.
 use native.Mathlib.Omega.{arith}
 use mathlib.Core.Path.{sym, ap, _∙_}
 use borrow.Author.Tests.{eq-eqb, ne-eqb, lt-ltb, le-ltb}
@@ -8,10 +7,6 @@ use Rattle.known_bits.specs.Pair.{exactly}
 use borrow.Author.Needs.{needs}
 use Rattle.bit_calculator.proofs.products.div64.Statement.{statement}
 use Rattle.bit_calculator.proofs.products.div64.Tie as tie
-
-returns : tie.Need-returns
-unfolding quotient known
-returns c = simp (eq-eqb _ _ (c .before .if1 .taken)) (ap exactly (c .div64 .ensures))
 
 returns-2 : tie.Need-returns-2
 unfolding quotient known
@@ -27,8 +22,9 @@ returns-3 c =
     (ap among (c .up-to .ensures ∙ ap upTo (c .before .highest-quotient .ensures)))
 
 pub div64-spec : {M : Type 1} → statement M
+unfolding quotient known
 div64-spec =
     tie.close
     (tie.spec
-    (λ c κs. search needs) returns (λ c κs. search needs) (λ c. search needs) (λ c. search needs) returns-2
-    (λ c κs. search needs) (λ c κs. search needs) returns-3)
+    (λ c κs. search needs) (λ c. simp (eq-eqb _ _ (c .before .if1 .taken)) (ap exactly (c .div64 .ensures))) (λ c κs. search needs)
+    (λ c. search needs) (λ c. search needs) returns-2 (λ c κs. search needs) (λ c κs. search needs) returns-3)

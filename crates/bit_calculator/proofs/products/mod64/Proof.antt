@@ -1,5 +1,4 @@
 -- `mod64` by whether both operands are known, and whether the divisor is a power of two.
--- Assumes nothing.
 use native.Mathlib.Omega.{arith}
 use mathlib.Core.Path.{sym, ap, _∙_}
 use Prim.Native.Nat.{ℕ, _%_}
@@ -10,16 +9,6 @@ use Rattle.bit_calculator.proofs.Words.{one-shifted-is-the-power, one-s
 use borrow.Author.Needs.{needs}
 use Rattle.bit_calculator.proofs.products.mod64.Statement.{statement}
 use Rattle.bit_calculator.proofs.products.mod64.Tie as tie
-
-returns : tie.Need-returns
-unfolding rest known
-returns c = simp (eq-eqb _ _ (c .before .if1 .taken)) (ap exactly (c .mod64 .ensures))
-
-rem-t9 : tie.Need-rem-t9
-rem-t9 c = omega (arith, one-shifted-is-not-zero _ (c .before .if2 .taken))
-
-rem-t11 : tie.Need-rem-t11
-rem-t11 c = omega (arith, one-shifted-is-not-zero _ (c .before .before .if2 .taken))
 
 returns-2 : tie.Need-returns-2
 unfolding rest known
@@ -37,8 +26,11 @@ returns-3 c =
     (ap among (c .up-to .ensures ∙ ap upTo (c .before .highest-rest .ensures)))
 
 pub mod64-spec : {M : Type 1} → statement M
+unfolding rest known
 mod64-spec =
     tie.close
     (tie.spec
-    (λ c κs. search needs) returns (λ c κs. search needs) (λ c. search needs) rem-t9 (λ c. search needs) rem-t11 returns-2
-    (λ c κs. search needs) (λ c κs. search needs) returns-3)
+    (λ c κs. search needs) (λ c. simp (eq-eqb _ _ (c .before .if1 .taken)) (ap exactly (c .mod64 .ensures))) (λ c κs. search needs)
+    (λ c. search needs) (λ c. omega (arith, one-shifted-is-not-zero _ (c .before .if2 .taken))) (λ c. search needs)
+    (λ c. omega (arith, one-shifted-is-not-zero _ (c .before .before .if2 .taken))) returns-2 (λ c κs. search needs) (λ c κs. search needs)
+    returns-3)

@@ -1,5 +1,4 @@
 -- `mul` by whether both factors are known, and whether nothing but a length is known of both.
--- Assumes nothing.
 use mathlib.Core.Path.{sym, _∙_}
 use native.Mathlib.Omega.{arith}
 use Rattle.bit_calculator.proofs.ProductCuts.{plain-product-cut}
@@ -12,15 +11,6 @@ returns : tie.Need-returns
 returns c =
     let args = c .before .before .before .before .args in
     λ w s e. known-product-cut (args .a) (args .b) (args .all) w e (c .before .if1 .taken) (c .mul64 .result) (c .mul64 .ensures)
-
-returns-2 : tie.Need-returns-2
-returns-2 c = λ w s e. c .by-digits .ensures w s e (c .before .before .before .before .if1 .left)
-
-returns-3 : tie.Need-returns-3
-returns-3 c = λ w s e. c .by-digits2 .ensures w s e (c .before .before .before .before .before .before .before .if1 .left)
-
-returns-4 : tie.Need-returns-4
-returns-4 c = λ w s e. c .by-digits3 .ensures w s e (c .before .before .before .before .before .before .before .before .before .before .if1 .left)
 
 returns-5 : tie.Need-returns-5
 returns-5 c =
@@ -35,5 +25,9 @@ pub mul-spec : {M : Type 1} → statement M
 mul-spec =
     tie.close
     (tie.spec
-    (λ c κs. search needs) returns (λ c κs. search needs) returns-2 (λ c κs. search needs) (λ c κs. search needs) returns-3
-    (λ c κs. search needs) (λ c κs. search needs) returns-4 (λ c κs. search needs) returns-5)
+    (λ c κs. search needs) returns (λ c κs. search needs)
+    (λ c. λ w s e. c .by-digits .ensures w s e (c .before .before .before .before .if1 .left)) (λ c κs. search needs) (λ c κs. search needs)
+    (λ c. λ w s e. c .by-digits2 .ensures w s e (c .before .before .before .before .before .before .before .if1 .left))
+    (λ c κs. search needs) (λ c κs. search needs)
+    (λ c. λ w s e. c .by-digits3 .ensures w s e (c .before .before .before .before .before .before .before .before .before .before .if1 .left))
+    (λ c κs. search needs) returns-5)

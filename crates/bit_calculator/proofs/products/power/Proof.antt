@@ -1,5 +1,4 @@
 -- `power` by whether the pair is known, and is the power of two of its low zeros.
--- Assumes nothing.
 use native.Mathlib.Omega.{arith}
 use mathlib.Core.Path.{sym, ap, _∙_}
 use borrow.Author.Tests.{eq-eqb, ne-eqb}
@@ -9,10 +8,6 @@ use Prim.Native.Nat.{ℕ, _%_, _^_}
 use borrow.Author.Needs.{needs}
 use Rattle.bit_calculator.proofs.products.power.Statement.{statement}
 use Rattle.bit_calculator.proofs.products.power.Tie as tie
-
-returns : tie.Need-returns
-unfolding power
-returns c = simp (ne-eqb _ _ (c .if1 .taken))
 
 returns-2 : tie.Need-returns-2
 unfolding power
@@ -30,4 +25,5 @@ returns-3 c =
     simp (eq-eqb (b .mask) 0 (omega arith), sym e, eq-eqb (b .value) (2 ^ n) (omega (arith, one-shifted-is-the-power n (omega arith))))
 
 pub power-spec : {M : Type 1} → statement M
-power-spec = tie.close (tie.spec returns (λ c κs. search needs) (λ c. search needs) returns-2 returns-3)
+unfolding power
+power-spec = tie.close (tie.spec (λ c. simp (ne-eqb _ _ (c .if1 .taken))) (λ c κs. search needs) (λ c. search needs) returns-2 returns-3)

@@ -1,5 +1,5 @@
 -- `shift_and_add` stops where the digits that are left change nothing. The loop keeps the low k digits times b.
--- The measure is how many digits are left. Assumes nothing.
+-- The measure is how many digits are left.
 use mathlib.Core.Path.{_≡_, ap, _∙_}
 use Prim.Native.Nat.{suc, _+_, _-_, _≤_}
 use native.Mathlib.Omega.{arith}
@@ -15,10 +15,6 @@ Inv-loop a b all digits reach r₀ k₀ r k = (k ≤ 64) × (r ≡ lowDigits 64 
 
 abbrev μ-loop : tie.MeasureT-loop
 μ-loop a b all digits reach r₀ k₀ r k = 64 - k
-
-loop-holds : tie.Need-loop-holds Inv-loop μ-loop
-unfolding lowDigits
-loop-holds c = search needs
 
 returns : tie.Need-returns Inv-loop μ-loop
 returns c =
@@ -51,8 +47,9 @@ returns-3 c =
     λ w s e. ap (low w) (at .inv .1 ∙ ap (lowDigits 64 (args .a) (args .b)) n)
 
 pub shift-and-add-spec : {M : Type 1} → statement M
+unfolding lowDigits
 shift-and-add-spec =
     tie.close
     (tie.spec
-    Inv-loop μ-loop (λ c κs. search needs) (λ c κs. search needs) loop-holds (λ c. search needs) returns (λ c. search needs) returns-2
-    (λ c κs. search needs) (λ c. search needs) (λ c. search needs) loop-again returns-3)
+    Inv-loop μ-loop (λ c κs. search needs) (λ c κs. search needs) (λ c. search needs) (λ c. search needs) returns (λ c. search needs)
+    returns-2 (λ c κs. search needs) (λ c. search needs) (λ c. search needs) loop-again returns-3)

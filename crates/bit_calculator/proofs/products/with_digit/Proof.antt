@@ -1,18 +1,10 @@
 -- `with_digit` by whether the digit is 0, 1 or unknown.
--- Assumes nothing.
 use mathlib.Core.Path.{ap, _∙_}
 use Rattle.known_bits.specs.Formula.{joined, placed}
 use Rattle.bit_calculator.proofs.AddedDigits.{no-1-is-added, a-1-is-added, an-unknown-digit-may-be-added}
 use borrow.Author.Needs.{needs}
 use Rattle.bit_calculator.proofs.products.with_digit.Statement.{statement}
 use Rattle.bit_calculator.proofs.products.with_digit.Tie as tie
-
-returns : tie.Need-returns
-returns c = no-1-is-added _ _ _ _ (c .if1 .taken)
-
-returns-2 : tie.Need-returns-2
-unfolding placed
-returns-2 c = c .before .before .add64 .ensures ∙ a-1-is-added _ _ _ _ (c .before .before .before .before .before .if1 .left) (c .if2 .taken)
 
 returns-3 : tie.Need-returns-3
 unfolding placed
@@ -21,8 +13,11 @@ returns-3 c =
     ∙ an-unknown-digit-may-be-added _ _ _ _ (c .before .if2 .left)
 
 pub with-digit-spec : {M : Type 1} → statement M
+unfolding placed
 with-digit-spec =
     tie.close
     (tie.spec
-    (λ c. search needs) returns (λ c. search needs) (λ c. search needs) (λ c κs. search needs) (λ c. search needs) returns-2
+    (λ c. search needs) (λ c. no-1-is-added _ _ _ _ (c .if1 .taken)) (λ c. search needs) (λ c. search needs) (λ c κs. search needs)
+    (λ c. search needs)
+    (λ c. c .before .before .add64 .ensures ∙ a-1-is-added _ _ _ _ (c .before .before .before .before .before .if1 .left) (c .if2 .taken))
     (λ c κs. search needs) returns-3)

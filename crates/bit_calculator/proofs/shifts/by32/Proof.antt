@@ -1,13 +1,9 @@
 -- `by32` shifts value and mask alike.
--- Assumes nothing.
 use Rattle.known_bits.specs.Formula.{shiftedBy}
 use borrow.Author.Needs.{needs}
 use Rattle.bit_calculator.proofs.shifts.by32.Statement.{statement}
 use Rattle.bit_calculator.proofs.shifts.by32.Tie as tie
 
-returns : tie.Need-returns
-unfolding shiftedBy
-returns c = cc
-
 pub by32-spec : {M : Type 1} → statement M
-by32-spec = tie.close (tie.spec (λ c κs. search needs) (λ c κs. search needs) returns)
+unfolding shiftedBy
+by32-spec = tie.close (tie.spec (λ c κs. search needs) (λ c κs. search needs) (λ c. cc))

@@ -1,13 +1,9 @@
 -- `by64` shifts value and mask alike.
--- Assumes nothing.
 use Rattle.known_bits.specs.Formula.{shiftedBy}
 use borrow.Author.Needs.{needs}
 use Rattle.bit_calculator.proofs.shifts.by64.Statement.{statement}
 use Rattle.bit_calculator.proofs.shifts.by64.Tie as tie
 
-returns : tie.Need-returns
-unfolding shiftedBy
-returns c = cc
-
 pub by64-spec : {M : Type 1} → statement M
-by64-spec = tie.close (tie.spec (λ c κs. search needs) (λ c κs. search needs) returns)
+unfolding shiftedBy
+by64-spec = tie.close (tie.spec (λ c κs. search needs) (λ c κs. search needs) (λ c. cc))

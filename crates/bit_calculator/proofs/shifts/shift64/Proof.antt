@@ -1,5 +1,4 @@
 -- `shift64` by what is known of the count.
--- Assumes nothing.
 use mathlib.Core.Path.{ap₂, _∙_}
 use borrow.Author.Tests.{eq-eqb, ne-eqb}
 use Rattle.known_bits.specs.Formula.{joined, single, shifted}
@@ -7,23 +6,17 @@ use borrow.Author.Needs.{needs}
 use Rattle.bit_calculator.proofs.shifts.shift64.Statement.{statement}
 use Rattle.bit_calculator.proofs.shifts.shift64.Tie as tie
 
-returns : tie.Need-returns
-unfolding shifted
-returns c = simp (eq-eqb _ _ (c .before .if1 .taken)) (c .by64 .ensures)
-
 returns-2 : tie.Need-returns-2
 unfolding shifted single
 returns-2 c =
     simp (ne-eqb _ _ (c .before .before .before .before .before .if1 .left), eq-eqb _ _ (c .before .before .before .before .if2 .taken))
     (c .join .ensures .0 ∙ ap₂ joined (c .before .before .before .by642 .ensures) (c .before .by643 .ensures))
 
-returns-3 : tie.Need-returns-3
-unfolding shifted single
-returns-3 c = simp (ne-eqb _ _ (c .before .before .if1 .left), ne-eqb _ _ (c .before .if2 .left)) (c .unknown64 .ensures)
-
 pub shift64-spec : {M : Type 1} → statement M
+unfolding shifted single
 shift64-spec =
     tie.close
     (tie.spec
-    (λ c κs. search needs) returns (λ c. search needs) (λ c κs. search needs) (λ c κs. search needs) (λ c κs. search needs)
-    returns-2 (λ c κs. search needs) returns-3)
+    (λ c κs. search needs) (λ c. simp (eq-eqb _ _ (c .before .if1 .taken)) (c .by64 .ensures)) (λ c. search needs) (λ c κs. search needs)
+    (λ c κs. search needs) (λ c κs. search needs) returns-2 (λ c κs. search needs)
+    (λ c. simp (ne-eqb _ _ (c .before .before .if1 .left), ne-eqb _ _ (c .before .if2 .left)) (c .unknown64 .ensures)))

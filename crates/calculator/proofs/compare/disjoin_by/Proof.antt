@@ -1,21 +1,14 @@
 -- `disjoin_by` by whether either is contradicted.
--- Assumes nothing.
 use Rattle.number.specs.Compare.{disjointBy}
 use borrow.Author.Needs.{needs}
 use Rattle.calculator.proofs.compare.disjoin_by.Statement.{statement}
 use Rattle.calculator.proofs.compare.disjoin_by.Tie as tie
 
-returns : tie.Need-returns
-unfolding disjointBy
-returns c = rw (c .enum-told .given .1)
-
-returns-2 : tie.Need-returns-2
-unfolding disjointBy
-returns-2 c = rw (c .before .before .before .one .given .1, c .enum-told2 .given .1)
-
-returns-3 : tie.Need-returns-3
-unfolding disjointBy
-returns-3 c = rw (c .before .before .before .before .before .before .before .one .given .1, c .before .before .before .before .other .given .1, c .settle .ensures, c .before .before .sharpen .ensures, c .before .sharpen2 .ensures)
-
 pub disjoin-by-spec : {M : Type 1} → statement M
-disjoin-by-spec = tie.close (tie.spec (λ c. search needs) (λ c. search needs) (λ c. search needs) (λ c. search needs) (λ c κs. search needs) (λ c κs. search needs) (λ c κs. search needs) returns returns-2 returns-3)
+unfolding disjointBy
+disjoin-by-spec =
+    tie.close
+    (tie.spec
+    (λ c. search needs) (λ c. search needs) (λ c. search needs) (λ c. search needs) (λ c κs. search needs) (λ c κs. search needs)
+    (λ c κs. search needs) (λ c. rw (c .enum-told .given .1)) (λ c. rw (c .before .before .before .one .given .1, c .enum-told2 .given .1))
+    (λ c. rw (c .before .before .before .before .before .before .before .one .given .1, c .before .before .before .before .other .given .1, c .settle .ensures, c .before .before .sharpen .ensures, c .before .sharpen2 .ensures)))

@@ -1,14 +1,14 @@
 -- `equate` by what the two have in common.
--- Assumes nothing.
 use mathlib.Core.Path.{ap₂, _∙_}
 use Rattle.number.specs.Compare.{equalBy, equal}
 use borrow.Author.Needs.{needs}
 use Rattle.calculator.proofs.compare.equate.Statement.{statement}
 use Rattle.calculator.proofs.compare.equate.Tie as tie
 
-returns : tie.Need-returns
-unfolding equal
-returns c = c .equate-by .ensures ∙ ap₂ equalBy (c .before .before .meet .ensures .0) (c .before .share .ensures)
-
 pub equate-spec : {M : Type 1} → statement M
-equate-spec = tie.close (tie.spec (λ c κs. search needs) (λ c κs. search needs) (λ c κs. search needs) returns)
+unfolding equal
+equate-spec =
+    tie.close
+    (tie.spec
+    (λ c κs. search needs) (λ c κs. search needs) (λ c κs. search needs)
+    (λ c. c .equate-by .ensures ∙ ap₂ equalBy (c .before .before .meet .ensures .0) (c .before .share .ensures)))

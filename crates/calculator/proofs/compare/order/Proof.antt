@@ -1,13 +1,13 @@
 -- `order` by the bounds of both.
--- Assumes nothing.
 use Rattle.number.specs.Compare.{ordered}
 use borrow.Author.Needs.{needs}
 use Rattle.calculator.proofs.compare.order.Statement.{statement}
 use Rattle.calculator.proofs.compare.order.Tie as tie
 
-returns : tie.Need-returns
-unfolding ordered
-returns c = rw (c .order-in .ensures, c .before .before .bound .ensures, c .before .bound2 .ensures)
-
 pub order-spec : {M : Type 1} → statement M
-order-spec = tie.close (tie.spec (λ c κs. search needs) (λ c κs. search needs) (λ c κs. search needs) returns)
+unfolding ordered
+order-spec =
+    tie.close
+    (tie.spec
+    (λ c κs. search needs) (λ c κs. search needs) (λ c κs. search needs)
+    (λ c. rw (c .order-in .ensures, c .before .before .bound .ensures, c .before .bound2 .ensures)))

@@ -1,18 +1,13 @@
 -- `take_out_known` by whether the other number is known.
--- Assumes nothing.
 use borrow.Author.Tests.{eq-eqb, ne-eqb}
 use Rattle.number.specs.Compare.{apartFrom}
 use borrow.Author.Needs.{needs}
 use Rattle.calculator.proofs.compare.take_out_known.Statement.{statement}
 use Rattle.calculator.proofs.compare.take_out_known.Tie as tie
 
-returns : tie.Need-returns
-unfolding apartFrom
-returns c = simp (eq-eqb _ _ (c .before .if1 .taken)) (c .take-out .ensures)
-
-returns-2 : tie.Need-returns-2
-unfolding apartFrom
-returns-2 c = simp (ne-eqb _ _ (c .if1 .left))
-
 pub take-out-known-spec : {M : Type 1} → statement M
-take-out-known-spec = tie.close (tie.spec (λ c κs. search needs) returns returns-2)
+unfolding apartFrom
+take-out-known-spec =
+    tie.close
+    (tie.spec
+    (λ c κs. search needs) (λ c. simp (eq-eqb _ _ (c .before .if1 .taken)) (c .take-out .ensures)) (λ c. simp (ne-eqb _ _ (c .if1 .left))))

@@ -1,5 +1,4 @@
 -- `turn` adds half the range.
--- Assumes nothing.
 use mathlib.Core.Path.{ap, _∙_}
 use Rattle.number.specs.Computed.{computed}
 use Rattle.number.specs.Compare.{turned}
@@ -8,9 +7,10 @@ use borrow.Author.Needs.{needs}
 use Rattle.calculator.proofs.compare.turn.Statement.{statement}
 use Rattle.calculator.proofs.compare.turn.Tie as tie
 
-returns : tie.Need-returns
-unfolding turned
-returns c = c .alu64 .ensures ∙ ap (computed 64 Add (c .before .before .args .n)) (c .before .exactly .ensures)
-
 pub turn-spec : {M : Type 1} → statement M
-turn-spec = tie.close (tie.spec (λ c κs. search needs) (λ c κs. search needs) returns)
+unfolding turned
+turn-spec =
+    tie.close
+    (tie.spec
+    (λ c κs. search needs) (λ c κs. search needs)
+    (λ c. c .alu64 .ensures ∙ ap (computed 64 Add (c .before .before .args .n)) (c .before .exactly .ensures)))

@@ -1,5 +1,4 @@
 -- `halves_of_range` by whether the upper half is 0.
--- Assumes nothing.
 use native.Mathlib.Omega.{arith}
 use borrow.Author.Tests.{lt-ltb, le-ltb}
 use Prim.Native.Nat.{_^_}
@@ -9,13 +8,10 @@ use borrow.Author.Needs.{needs}
 use Rattle.calculator.proofs.halves.halves_of_range.Statement.{statement}
 use Rattle.calculator.proofs.halves.halves_of_range.Tie as tie
 
-returns : tie.Need-returns
-unfolding halvesOfRange common
-returns c = simp (c .between .ensures, lt-ltb _ _ (c .before .if1 .taken))
-
-returns-2 : tie.Need-returns-2
-unfolding halvesOfRange
-returns-2 c = simp (le-ltb (c .before .before .args .s .hi) (2 ^ 32) (omega arith))
-
 pub halves-of-range-spec : {M : Type 1} → statement M
-halves-of-range-spec = tie.close (tie.spec (λ c κs. search needs) returns returns-2)
+unfolding halvesOfRange common
+halves-of-range-spec =
+    tie.close
+    (tie.spec
+    (λ c κs. search needs) (λ c. simp (c .between .ensures, lt-ltb _ _ (c .before .if1 .taken)))
+    (λ c. simp (le-ltb (c .before .before .args .s .hi) (2 ^ 32) (omega arith))))

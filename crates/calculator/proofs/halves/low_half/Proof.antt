@@ -1,13 +1,9 @@
 -- `low_half` is the move at 32 bits.
--- Assumes nothing.
 use Rattle.number.specs.Halves.{lowHalf}
 use borrow.Author.Needs.{needs}
 use Rattle.calculator.proofs.halves.low_half.Statement.{statement}
 use Rattle.calculator.proofs.halves.low_half.Tie as tie
 
-returns : tie.Need-returns
-unfolding lowHalf
-returns c = c .alu32 .ensures
-
 pub low-half-spec : {M : Type 1} → statement M
-low-half-spec = tie.close (tie.spec (λ c κs. search needs) returns)
+unfolding lowHalf
+low-half-spec = tie.close (tie.spec (λ c κs. search needs) (λ c. c .alu32 .ensures))

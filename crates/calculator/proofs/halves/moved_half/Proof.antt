@@ -1,5 +1,4 @@
 -- `moved_half` adds half the range.
--- Assumes nothing.
 use mathlib.Core.Path.{ap, _∙_}
 use Rattle.number.specs.Computed.{computed}
 use Rattle.number.specs.Halves.{movedHalf}
@@ -8,9 +7,10 @@ use borrow.Author.Needs.{needs}
 use Rattle.calculator.proofs.halves.moved_half.Statement.{statement}
 use Rattle.calculator.proofs.halves.moved_half.Tie as tie
 
-returns : tie.Need-returns
-unfolding movedHalf
-returns c = c .alu32 .ensures ∙ ap (computed 32 Add (c .before .before .args .n)) (c .before .exactly .ensures)
-
 pub moved-half-spec : {M : Type 1} → statement M
-moved-half-spec = tie.close (tie.spec (λ c κs. search needs) (λ c κs. search needs) returns)
+unfolding movedHalf
+moved-half-spec =
+    tie.close
+    (tie.spec
+    (λ c κs. search needs) (λ c κs. search needs)
+    (λ c. c .alu32 .ensures ∙ ap (computed 32 Add (c .before .before .args .n)) (c .before .exactly .ensures)))

@@ -1,5 +1,4 @@
 -- `operand` at either width: a word is its own low 64 bits.
--- Assumes nothing.
 use native.Mathlib.Omega.{arith}
 use mathlib.Core.Path.{_∙_}
 use Rattle.calculator.proofs.Words.{word-modulo-64-bits}
@@ -7,11 +6,10 @@ use borrow.Author.Needs.{needs}
 use Rattle.calculator.proofs.operation.operand.Statement.{statement}
 use Rattle.calculator.proofs.operation.operand.Tie as tie
 
-returns : tie.Need-returns
-returns c = rw (c .before .before .before .if1 .taken) (c .narrow .ensures ∙ word-modulo-64-bits (c .before .before .before .before .args .n) (omega arith) (omega arith) (omega arith) (omega arith))
-
-returns-2 : tie.Need-returns-2
-returns-2 c = rw (c .before .if1 .left) (c .operand32 .ensures)
-
 pub operand-spec : {M : Type 1} → statement M
-operand-spec = tie.close (tie.spec (λ c κs. search needs) returns (λ c κs. search needs) returns-2)
+operand-spec =
+    tie.close
+    (tie.spec
+    (λ c κs. search needs)
+    (λ c. rw (c .before .before .before .if1 .taken) (c .narrow .ensures ∙ word-modulo-64-bits (c .before .before .before .before .args .n) (omega arith) (omega arith) (omega arith) (omega arith)))
+    (λ c κs. search needs) (λ c. rw (c .before .if1 .left) (c .operand32 .ensures)))

@@ -1,13 +1,12 @@
 -- `operand32` by what the range and the known bits tell.
--- Assumes nothing.
 use Rattle.number.specs.Computed.{modulo}
 use borrow.Author.Needs.{needs}
 use Rattle.calculator.proofs.operation.operand32.Statement.{statement}
 use Rattle.calculator.proofs.operation.operand32.Tie as tie
 
-returns : tie.Need-returns
-unfolding modulo
-returns c = rw (c .between .ensures, c .before .block32 .ensures)
-
 pub operand32-spec : {M : Type 1} → statement M
-operand32-spec = tie.close (tie.spec (λ c κs. search needs) (λ c κs. search needs) returns)
+unfolding modulo
+operand32-spec =
+    tie.close
+    (tie.spec
+    (λ c κs. search needs) (λ c κs. search needs) (λ c. rw (c .between .ensures, c .before .block32 .ensures)))

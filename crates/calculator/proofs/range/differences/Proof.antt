@@ -1,14 +1,13 @@
 -- `differences` by its ends.
--- Assumes nothing.
 use Rattle.number.specs.Ranges.{crossed}
 use Rattle.number.proofs.Operands.{same-ends}
 use borrow.Author.Needs.{needs}
 use Rattle.calculator.proofs.range.differences.Statement.{statement}
 use Rattle.calculator.proofs.range.differences.Tie as tie
 
-returns : tie.Need-returns
-unfolding crossed
-returns c = same-ends _ _ _ (c .before .sub64 .ensures) (c .sub642 .ensures)
-
 pub differences-spec : {M : Type 1} → statement M
-differences-spec = tie.close (tie.spec (λ c κs. search needs) (λ c κs. search needs) returns)
+unfolding crossed
+differences-spec =
+    tie.close
+    (tie.spec
+    (λ c κs. search needs) (λ c κs. search needs) (λ c. same-ends _ _ _ (c .before .sub64 .ensures) (c .sub642 .ensures)))

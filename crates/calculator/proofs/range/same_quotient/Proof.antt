@@ -1,5 +1,4 @@
 -- `same_quotient` by whether the divisor is known.
--- Assumes nothing.
 use native.Mathlib.Omega.{arith}
 use mathlib.Core.Path.{ap₂, _∙_}
 use borrow.Author.Tests.{eq-eqb, ne-eqb}
@@ -10,13 +9,10 @@ use borrow.Author.Needs.{needs}
 use Rattle.calculator.proofs.range.same_quotient.Statement.{statement}
 use Rattle.calculator.proofs.range.same_quotient.Tie as tie
 
-returns : tie.Need-returns
-unfolding sameQuotient
-returns c = simp (ne-eqb _ _ (c .if1 .taken))
-
-returns-2 : tie.Need-returns-2
-unfolding sameQuotient
-returns-2 c = let a = c .before .before .before .before .args .a in let b = c .before .before .before .before .args .b in simp (eq-eqb (b .lo) (b .hi) (omega arith)) (ap₂ eqb (c .before .div64 .ensures ∙ quotient-of-words (a .lo) (b .lo) (omega arith) (omega arith)) (c .div642 .ensures ∙ quotient-of-words (a .hi) (b .lo) (omega arith) (omega arith)))
-
 pub same-quotient-spec : {M : Type 1} → statement M
-same-quotient-spec = tie.close (tie.spec returns (λ c κs. search needs) (λ c κs. search needs) returns-2)
+unfolding sameQuotient
+same-quotient-spec =
+    tie.close
+    (tie.spec
+    (λ c. simp (ne-eqb _ _ (c .if1 .taken))) (λ c κs. search needs) (λ c κs. search needs)
+    (λ c. let a = c .before .before .before .before .args .a in let b = c .before .before .before .before .args .b in simp (eq-eqb (b .lo) (b .hi) (omega arith)) (ap₂ eqb (c .before .div64 .ensures ∙ quotient-of-words (a .lo) (b .lo) (omega arith) (omega arith)) (c .div642 .ensures ∙ quotient-of-words (a .hi) (b .lo) (omega arith) (omega arith)))))

@@ -1,5 +1,4 @@
 -- `shift_fits` by whether the count is one of a word.
--- Assumes nothing.
 use native.Mathlib.Omega.{arith}
 use Prim.Native.Nat.{_^_}
 use lib.Pow.{pow-pos}
@@ -8,11 +7,9 @@ use borrow.Author.Needs.{needs}
 use Rattle.calculator.proofs.range.shift_fits.Statement.{statement}
 use Rattle.calculator.proofs.range.shift_fits.Tie as tie
 
-returns : tie.Need-returns
-returns c = only-zero-is-shifted-far (c .before .args .x) (c .before .args .n) (omega arith)
-
-returns-2 : tie.Need-returns-2
-returns-2 c = product-fits-by-quotient (c .before .args .x) (2 ^ c .before .args .n) (pow-pos (c .before .args .n))
-
 pub shift-fits-spec : {M : Type 1} → statement M
-shift-fits-spec = tie.close (tie.spec returns (λ c. search needs) returns-2)
+shift-fits-spec =
+    tie.close
+    (tie.spec
+    (λ c. only-zero-is-shifted-far (c .before .args .x) (c .before .args .n) (omega arith)) (λ c. search needs)
+    (λ c. product-fits-by-quotient (c .before .args .x) (2 ^ c .before .args .n) (pow-pos (c .before .args .n))))

@@ -1,5 +1,4 @@
 -- `sum` by whether no sum wraps, or every sum does.
--- Assumes nothing.
 use native.Mathlib.Omega.{arith}
 use borrow.Author.Tests.{lt-ltb, le-ltb, le-leb, lt-leb}
 use Rattle.number.specs.Ranges.{sumRange}
@@ -8,17 +7,14 @@ use borrow.Author.Needs.{needs}
 use Rattle.calculator.proofs.range.sum.Statement.{statement}
 use Rattle.calculator.proofs.range.sum.Tie as tie
 
-returns : tie.Need-returns
-unfolding sumRange
-returns c = let a = c .before .before .before .before .args .a in let b = c .before .before .before .before .args .b in simp (lt-ltb (a .hi + b .hi) (2 ^ 64) (omega arith)) (c .sums .ensures)
-
-returns-2 : tie.Need-returns-2
-unfolding sumRange
-returns-2 c = let a = c .before .before .before .before .before .before .before .args .a in let b = c .before .before .before .before .before .before .before .args .b in simp (le-ltb (a .hi + b .hi) (2 ^ 64) (omega arith), le-leb (2 ^ 64) (a .lo + b .lo) (omega arith)) (c .sums2 .ensures)
-
-returns-3 : tie.Need-returns-3
-unfolding sumRange
-returns-3 c = let a = c .before .before .before .before .before .before .before .args .a in let b = c .before .before .before .before .before .before .before .args .b in simp (le-ltb (a .hi + b .hi) (2 ^ 64) (omega arith), lt-leb (2 ^ 64) (a .lo + b .lo) (omega arith)) (c .all64 .ensures)
-
 pub sum-spec : {M : Type 1} → statement M
-sum-spec = tie.close (tie.spec (λ c. search needs) (λ c κs. search needs) returns (λ c. search needs) (λ c κs. search needs) returns-2 (λ c κs. search needs) returns-3)
+unfolding sumRange
+sum-spec =
+    tie.close
+    (tie.spec
+    (λ c. search needs) (λ c κs. search needs)
+    (λ c. let a = c .before .before .before .before .args .a in let b = c .before .before .before .before .args .b in simp (lt-ltb (a .hi + b .hi) (2 ^ 64) (omega arith)) (c .sums .ensures))
+    (λ c. search needs) (λ c κs. search needs)
+    (λ c. let a = c .before .before .before .before .before .before .before .args .a in let b = c .before .before .before .before .before .before .before .args .b in simp (le-ltb (a .hi + b .hi) (2 ^ 64) (omega arith), le-leb (2 ^ 64) (a .lo + b .lo) (omega arith)) (c .sums2 .ensures))
+    (λ c κs. search needs)
+    (λ c. let a = c .before .before .before .before .before .before .before .args .a in let b = c .before .before .before .before .before .before .before .args .b in simp (le-ltb (a .hi + b .hi) (2 ^ 64) (omega arith), lt-leb (2 ^ 64) (a .lo + b .lo) (omega arith)) (c .all64 .ensures)))

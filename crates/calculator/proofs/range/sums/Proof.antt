@@ -1,14 +1,13 @@
 -- `sums` by its ends.
--- Assumes nothing.
 use Rattle.number.specs.Ranges.{straight}
 use Rattle.number.proofs.Operands.{same-ends}
 use borrow.Author.Needs.{needs}
 use Rattle.calculator.proofs.range.sums.Statement.{statement}
 use Rattle.calculator.proofs.range.sums.Tie as tie
 
-returns : tie.Need-returns
-unfolding straight
-returns c = same-ends _ _ _ (c .before .add64 .ensures) (c .add642 .ensures)
-
 pub sums-spec : {M : Type 1} → statement M
-sums-spec = tie.close (tie.spec (λ c κs. search needs) (λ c κs. search needs) returns)
+unfolding straight
+sums-spec =
+    tie.close
+    (tie.spec
+    (λ c κs. search needs) (λ c κs. search needs) (λ c. same-ends _ _ _ (c .before .add64 .ensures) (c .add642 .ensures)))

@@ -1,5 +1,4 @@
 -- `fits` by whether the size alone is too much.
--- Assumes nothing.
 use native.Mathlib.Omega.{arith}
 use borrow.Author.Tests.{lt-leb}
 use Rattle.number.specs.Computed.{fits}
@@ -8,13 +7,10 @@ use Rattle.calculator.proofs.Fitting.{room-is-left}
 use Rattle.calculator.proofs.sharpen.fits.Statement.{statement}
 use Rattle.calculator.proofs.sharpen.fits.Tie as tie
 
-returns : tie.Need-returns
-unfolding fits
-returns c = simp (lt-leb (c .before .before .args .offset .range .hi + c .before .before .args .size) (c .before .before .args .limit) (omega arith))
-
-returns-2 : tie.Need-returns-2
-unfolding fits
-returns-2 c = room-is-left (c .before .before .args .offset .range .hi) (c .before .before .args .size) (c .before .before .args .limit) (omega arith)
-
 pub fits-spec : {M : Type 1} → statement M
-fits-spec = tie.close (tie.spec returns returns-2)
+unfolding fits
+fits-spec =
+    tie.close
+    (tie.spec
+    (λ c. simp (lt-leb (c .before .before .args .offset .range .hi + c .before .before .args .size) (c .before .before .args .limit) (omega arith)))
+    (λ c. room-is-left (c .before .before .args .offset .range .hi) (c .before .before .args .size) (c .before .before .args .limit) (omega arith)))

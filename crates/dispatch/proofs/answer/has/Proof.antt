@@ -1,5 +1,4 @@
 -- `has` reads a bit of the mask.
--- Assumes nothing.
 use mathlib.Core.Path.{refl}
 use Rattle.word.specs.Word.{bit}
 use Rattle.dispatch.specs.Represent.{isSet}

@@ -1,5 +1,4 @@
 -- `change`: the mask has dst set already, so writing its number is `put`.
--- Assumes nothing.
 use mathlib.Core.Path.{refl}
 use native.Mathlib.Omega.{arith}
 use lib.ListN.{length-set}

@@ -1,5 +1,4 @@
 -- `keep`: dst is set in the mask, and writing its number is `put`.
--- Assumes nothing.
 use Prim.Native.Nat.{_≤_}
 use native.Mathlib.Omega.{arith}
 use lib.ListN.{length-set}

@@ -1,5 +1,4 @@
 -- `move_immediate`: a stop at a test, or what `keep` leads to.
--- Assumes nothing.
 use mathlib.Core.Path.{refl}
 use borrow.Author.Tests.{not-true, not-false, le-leb, lt-leb}
 use Rattle.dispatch.proofs.Answers.{unfit, writing, stops, passes}

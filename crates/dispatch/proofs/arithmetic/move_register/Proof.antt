@@ -1,5 +1,4 @@
 -- `move_register`: a stop at a test, or what `keep` leads to.
--- Assumes nothing.
 use borrow.Author.Tests.{not-true, not-false, le-leb, lt-leb}
 use Rattle.dispatch.proofs.Answers.{unfit, writing, reading, stops, passes, told}
 use borrow.Author.Needs.{needs}

@@ -1,5 +1,4 @@
 -- `put_immediate`: a stop at a test, or what `change` leads to, since dst is set.
--- Assumes nothing.
 use borrow.Author.Tests.{not-true, not-false, le-leb, lt-leb}
 use Rattle.dispatch.proofs.Answers.{unfit, writing, reading, stops, passes, told, not-unset}
 use borrow.Author.Needs.{needs}

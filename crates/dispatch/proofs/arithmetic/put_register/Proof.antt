@@ -1,5 +1,4 @@
 -- `put_register`: a stop at a test, or what `change` leads to, since dst is set.
--- Assumes nothing.
 use borrow.Author.Tests.{not-true, not-false, le-leb, lt-leb}
 use Rattle.dispatch.proofs.Answers.{unfit, writing, reading, stops, passes, told, first-unset, second-unset, both-set, not-unset}
 use borrow.Author.Needs.{needs}

@@ -1,5 +1,4 @@
 -- `exit`: a stop at a test, or the verdict.
--- Assumes nothing.
 use mathlib.Core.Path.{refl}
 use borrow.Author.Tests.{not-true, not-false}
 use Rattle.dispatch.proofs.Answers.{leads-end, unfit, reading, stops, passes, told}

@@ -1,5 +1,4 @@
 -- `go`: the index is the target where the jump is taken, else the next one.
--- Assumes nothing.
 use Rattle.dispatch.proofs.Answers.{leads-go, jump-is}
 use borrow.Author.Needs.{needs}
 use Rattle.dispatch.proofs.jumps.go.Statement.{statement}

@@ -1,5 +1,4 @@
 -- `load_into`: a stop at a test, what was found kept in dst, or a bad access.
--- Assumes nothing.
 use borrow.Author.Tests.{not-true, not-false, le-leb, lt-leb}
 use Rattle.machine.specs.Machine.{address}
 use Rattle.dispatch.proofs.Answers.{leads-to, leads-fault, unfit, writing, reading, stops, passes, told, load-found, load-lost}

@@ -1,5 +1,4 @@
 -- `store_at`: the store that was made, or a bad access with the stack as it was.
--- Assumes nothing.
 use mathlib.Core.Path.{refl, sym, _∙_}
 use Rattle.machine.specs.Machine.{address}
 use Rattle.dispatch.proofs.Answers.{leads-to, leads-fault, leads-go, store-made, store-barred}

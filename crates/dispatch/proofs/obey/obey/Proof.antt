@@ -1,5 +1,4 @@
 -- `obey` meets its contract: an arm is its format's law at its opcode, and what the opcode means computes.
--- Assumes nothing.
 use mathlib.Core.Path.{_≡_, refl}
 use mathlib.Core.Bool.{Bool}
 use mathlib.Core.List.{List, [], _∷_}

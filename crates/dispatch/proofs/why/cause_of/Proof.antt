@@ -1,5 +1,4 @@
 -- `cause_of`: each way out is a case of the three tests.
--- Assumes nothing.
 use Rattle.dispatch.specs.Represent.{causeAt}
 use borrow.Author.Needs.{needs}
 use Rattle.dispatch.proofs.why.cause_of.Statement.{statement}

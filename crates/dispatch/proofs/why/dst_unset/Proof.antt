@@ -1,5 +1,4 @@
 -- `dst_unset`: every operation but MOV reads dst.
--- Assumes nothing.
 use mathlib.Core.Path.{_∙_}
 use Rattle.machine.specs.Instruction.{readsDst}
 use Rattle.dispatch.specs.Represent.{unsetIn}

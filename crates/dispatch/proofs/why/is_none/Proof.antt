@@ -1,5 +1,4 @@
 -- `is_none`: the one arm that is none, or one of the others.
--- Assumes nothing.
 use Rattle.machine.specs.Machine.{isNoInstruction}
 use Rattle.dispatch.proofs.Causes.{some-instruction}
 use borrow.Author.Needs.{needs}

@@ -1,5 +1,4 @@
 -- `is_unset`: a bit of the mask; above its 64 bits there is none.
--- Assumes nothing.
 use mathlib.Core.Path.{ap}
 use mathlib.Core.Bool.{not}
 use Rattle.dispatch.proofs.Registers.{beyond-unset}

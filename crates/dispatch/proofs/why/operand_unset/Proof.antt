@@ -1,5 +1,4 @@
 -- `operand_unset`: an immediate operand reads nothing.
--- Assumes nothing.
 use Rattle.machine.specs.Instruction.{readsOperand}
 use Rattle.dispatch.specs.Represent.{unsetIn}
 use Rattle.dispatch.proofs.Causes.{of-one}

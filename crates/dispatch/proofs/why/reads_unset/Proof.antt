@@ -1,5 +1,4 @@
 -- `reads_unset`: an arm a kind of instruction, by what it reads.
--- Assumes nothing.
 use Rattle.machine.specs.Instruction.{reads}
 use Rattle.dispatch.proofs.Causes.{of-one, of-more, of-both, reads-no-register}
 use borrow.Author.Needs.{needs}

@@ -1,5 +1,4 @@
 -- `why`: off the end, or the cause that the instruction gives.
--- Assumes nothing.
 use mathlib.Core.Path.{_∙_}
 use Rattle.dispatch.proofs.Causes.{off-end, at-instruction}
 use borrow.Author.Needs.{needs}

@@ -1,5 +1,4 @@
 -- `writes_r10`: three kinds of instruction write a register, dst.
--- Assumes nothing.
 use Rattle.machine.specs.Instruction.{writes}
 use Rattle.dispatch.proofs.Causes.{writes-no-register, writes-one}
 use borrow.Author.Needs.{needs}

@@ -1,31 +1,17 @@
 -- `write_section`: a name lies in the file.
--- Assumes nothing.
 use native.Mathlib.Omega.{arith}
 use Rattle.loading.proofs.Places.{a-name-lies-in-the-file}
 use borrow.Author.Needs.{needs}
 use Rattle.loading.proofs.trouble.write_section.Statement.{statement}
 use Rattle.loading.proofs.trouble.write_section.Tie as tie
 
-add-write-quoted : tie.Need-add-write-quoted
-add-write-quoted c = let l = a-name-lies-in-the-file _ _ _ _ (c .before .before .before .before .name-of .ensures) (c .before .before .name .given .1) in omega arith
-
-part-write-quoted-end : tie.Need-part-write-quoted-end
-part-write-quoted-end c = a-name-lies-in-the-file _ _ _ _ (c .before .before .before .before .name-of .ensures) (c .before .before .name .given .1)
-
 pub write-section-spec : {M : Type 1} → statement M
 write-section-spec =
     tie.close
     (tie.spec
-    (λ c κs. search needs)
-    (λ c. search needs)
-    add-write-quoted
-    (λ c. search needs)
-    (λ c. search needs)
-    part-write-quoted-end
-    (λ c κs. search needs)
-    (λ c. search needs)
-    (λ c κs. search needs)
-    (λ c. search needs)
-    (λ c. search needs)
-    (λ c. search needs)
+    (λ c κs. search needs) (λ c. search needs)
+    (λ c. let l = a-name-lies-in-the-file _ _ _ _ (c .before .before .before .before .name-of .ensures) (c .before .before .name .given .1) in omega arith)
+    (λ c. search needs) (λ c. search needs)
+    (λ c. a-name-lies-in-the-file _ _ _ _ (c .before .before .before .before .name-of .ensures) (c .before .before .name .given .1))
+    (λ c κs. search needs) (λ c. search needs) (λ c κs. search needs) (λ c. search needs) (λ c. search needs) (λ c. search needs)
     (λ c. search needs))

@@ -1,5 +1,4 @@
 -- `decode`: too short for eight bytes, or the meaning of the fields.
--- Assumes nothing.
 use mathlib.Core.Path.{ap, _∙_}
 use Prim.Native.Nat.{_+_}
 use native.Mathlib.Omega.{arith}
@@ -9,12 +8,6 @@ use Rattle.machine.specs.Instruction.{meaning, decode}
 use borrow.Author.Needs.{needs}
 use Rattle.machine.proofs.instruction.decode.Statement.{statement}
 use Rattle.machine.proofs.instruction.decode.Tie as tie
-
-returns : tie.Need-returns
-returns c = let a = c .before .before .args in simp (lt-leb (a .i + 8) (length (a .m .now)) (omega arith))
-
-returns-2 : tie.Need-returns-2
-returns-2 c = let a = c .before .before .before .args in simp (lt-leb (a .i + 8) (length (a .m .now)) (omega arith))
 
 returns-3 : tie.Need-returns-3
 unfolding decode
@@ -27,4 +20,6 @@ pub decode-spec : {M : Type 1} → statement M
 decode-spec =
     tie.close
     (tie.spec
-    returns (λ c. search needs) returns-2 (λ c κs. search needs) (λ c. search needs) (λ c κs. search needs) returns-3)
+    (λ c. let a = c .before .before .args in simp (lt-leb (a .i + 8) (length (a .m .now)) (omega arith))) (λ c. search needs)
+    (λ c. let a = c .before .before .before .args in simp (lt-leb (a .i + 8) (length (a .m .now)) (omega arith))) (λ c κs. search needs)
+    (λ c. search needs) (λ c κs. search needs) returns-3)

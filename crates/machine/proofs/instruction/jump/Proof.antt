@@ -1,18 +1,9 @@
 -- `jump`: an arm is a line of the table of comparisons; where there is no arm there is no line.
--- Assumes nothing.
 use borrow.Author.Tests.{ne-eqb}
 use Rattle.machine.specs.Instruction.{lookup, comparisons, jump}
 use borrow.Author.Needs.{needs}
 use Rattle.machine.proofs.instruction.jump.Statement.{statement}
 use Rattle.machine.proofs.instruction.jump.Tie as tie
-
-returns : tie.Need-returns
-unfolding jump
-returns c = rw (c .before .if1 .taken) (c .always .ensures)
-
-returns-2 : tie.Need-returns-2
-unfolding jump
-returns-2 c = rw (c .before .if2 .taken) (c .exit .ensures)
 
 returns-3 : tie.Need-returns-3
 unfolding jump lookup comparisons
@@ -100,11 +91,12 @@ returns-14 c =
     ))
 
 pub jump-spec : {M : Type 1} → statement M
+unfolding jump
 jump-spec =
     tie.close
     (tie.spec
-    (λ c κs. search needs) returns (λ c κs. search needs) returns-2 (λ c κs. search needs) (λ c κs. search needs)
-    (λ c κs. search needs) (λ c κs. search needs) (λ c κs. search needs) (λ c κs. search needs)
-    (λ c κs. search needs) (λ c κs. search needs) (λ c κs. search needs) (λ c κs. search needs)
-    (λ c κs. search needs) returns-3 returns-4 returns-5 returns-6 returns-7 returns-8 returns-9 returns-10
-    returns-11 returns-12 returns-13 returns-14)
+    (λ c κs. search needs) (λ c. rw (c .before .if1 .taken) (c .always .ensures)) (λ c κs. search needs)
+    (λ c. rw (c .before .if2 .taken) (c .exit .ensures)) (λ c κs. search needs) (λ c κs. search needs) (λ c κs. search needs)
+    (λ c κs. search needs) (λ c κs. search needs) (λ c κs. search needs) (λ c κs. search needs) (λ c κs. search needs)
+    (λ c κs. search needs) (λ c κs. search needs) (λ c κs. search needs) returns-3 returns-4 returns-5 returns-6 returns-7 returns-8
+    returns-9 returns-10 returns-11 returns-12 returns-13 returns-14)

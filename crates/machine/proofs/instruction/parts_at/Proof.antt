@@ -1,5 +1,4 @@
 -- `parts_at` fetches the fields one by one.
--- Assumes nothing.
 use Rattle.machine.proofs.Fetch.{fields-by-parts, two-registers}
 use borrow.Author.Needs.{needs}
 use Rattle.machine.proofs.instruction.parts_at.Statement.{statement}
@@ -15,5 +14,4 @@ pub parts-at-spec : {M : Type 1} → statement M
 parts-at-spec =
     tie.close
     (tie.spec
-    (λ c. search needs) (λ c κs. search needs) (λ c. search needs) (λ c. search needs) (λ c κs. search needs)
-    (λ c κs. search needs) returns)
+    (λ c. search needs) (λ c κs. search needs) (λ c. search needs) (λ c. search needs) (λ c κs. search needs) (λ c κs. search needs) returns)

@@ -1,28 +1,18 @@
 -- `load` looks in the record, then in the stack.
--- Assumes nothing.
 use Rattle.machine.proofs.Access.{at-within, at-offset, at-fits, outside-not-within, load-record, load-stack, load-nowhere}
 use borrow.Author.Needs.{needs}
 use Rattle.machine.proofs.memory.load.Statement.{statement}
 use Rattle.machine.proofs.memory.load.Tie as tie
 
-get-requires : tie.Need-get-requires
-get-requires c κs = at-fits _ _ _ _ _ _ (c .before .before .before .before .byte-count .ensures .0) (c .before .before .before .locate .ensures) _ (c .before .i .given .1)
-
-get-requires-2 : tie.Need-get-requires-2
-get-requires-2 c κs = at-fits _ _ _ _ _ _ (c .before .before .before .before .before .before .before .byte-count .ensures .0) (c .before .before .before .locate2 .ensures) _ (c .before .i2 .given .1)
-
-returns : tie.Need-returns
-returns c = load-record _ _ _ _ _ _ (at-within _ _ _ _ _ _ (c .before .before .before .before .before .byte-count .ensures .0) (c .before .before .before .before .locate .ensures) _ (c .before .before .i .given .1)) (at-offset _ _ _ _ _ _ (c .before .before .before .before .before .byte-count .ensures .0) (c .before .before .before .before .locate .ensures) _ (c .before .before .i .given .1)) (c .get .ensures)
-
-returns-2 : tie.Need-returns-2
-returns-2 c = load-stack _ _ _ _ _ _ (outside-not-within _ _ _ _ _ _ (c .before .before .before .before .before .before .before .before .byte-count .ensures .0) (c .before .before .before .before .before .before .before .locate .ensures) (c .before .before .before .before .before .enum-told .given .1)) (at-within _ _ _ _ _ _ (c .before .before .before .before .before .before .before .before .byte-count .ensures .0) (c .before .before .before .before .locate2 .ensures) _ (c .before .before .i2 .given .1)) (at-offset _ _ _ _ _ _ (c .before .before .before .before .before .before .before .before .byte-count .ensures .0) (c .before .before .before .before .locate2 .ensures) _ (c .before .before .i2 .given .1)) (c .get2 .ensures)
-
-returns-3 : tie.Need-returns-3
-returns-3 c = load-nowhere _ _ _ _ (outside-not-within _ _ _ _ _ _ (c .before .before .before .before .before .before .byte-count .ensures .0) (c .before .before .before .before .before .locate .ensures) (c .before .before .before .enum-told .given .1)) (outside-not-within _ _ _ _ _ _ (c .before .before .before .before .before .before .byte-count .ensures .0) (c .before .before .locate2 .ensures) (c .enum-told2 .given .1))
-
 pub load-spec : {M : Type 1} → statement M
 load-spec =
     tie.close
     (tie.spec
-    (λ c κs. search needs) (λ c κs. search needs) (λ c. search needs) get-requires (λ c. search needs)
-    (λ c κs. search needs) (λ c. search needs) get-requires-2 (λ c. search needs) returns returns-2 returns-3)
+    (λ c κs. search needs) (λ c κs. search needs) (λ c. search needs)
+    (λ c κs. at-fits _ _ _ _ _ _ (c .before .before .before .before .byte-count .ensures .0) (c .before .before .before .locate .ensures) _ (c .before .i .given .1))
+    (λ c. search needs) (λ c κs. search needs) (λ c. search needs)
+    (λ c κs. at-fits _ _ _ _ _ _ (c .before .before .before .before .before .before .before .byte-count .ensures .0) (c .before .before .before .locate2 .ensures) _ (c .before .i2 .given .1))
+    (λ c. search needs)
+    (λ c. load-record _ _ _ _ _ _ (at-within _ _ _ _ _ _ (c .before .before .before .before .before .byte-count .ensures .0) (c .before .before .before .before .locate .ensures) _ (c .before .before .i .given .1)) (at-offset _ _ _ _ _ _ (c .before .before .before .before .before .byte-count .ensures .0) (c .before .before .before .before .locate .ensures) _ (c .before .before .i .given .1)) (c .get .ensures))
+    (λ c. load-stack _ _ _ _ _ _ (outside-not-within _ _ _ _ _ _ (c .before .before .before .before .before .before .before .before .byte-count .ensures .0) (c .before .before .before .before .before .before .before .locate .ensures) (c .before .before .before .before .before .enum-told .given .1)) (at-within _ _ _ _ _ _ (c .before .before .before .before .before .before .before .before .byte-count .ensures .0) (c .before .before .before .before .locate2 .ensures) _ (c .before .before .i2 .given .1)) (at-offset _ _ _ _ _ _ (c .before .before .before .before .before .before .before .before .byte-count .ensures .0) (c .before .before .before .before .locate2 .ensures) _ (c .before .before .i2 .given .1)) (c .get2 .ensures))
+    (λ c. load-nowhere _ _ _ _ (outside-not-within _ _ _ _ _ _ (c .before .before .before .before .before .before .byte-count .ensures .0) (c .before .before .before .before .before .locate .ensures) (c .before .before .before .enum-told .given .1)) (outside-not-within _ _ _ _ _ _ (c .before .before .before .before .before .before .byte-count .ensures .0) (c .before .before .locate2 .ensures) (c .enum-told2 .given .1))))

@@ -1,18 +1,13 @@
 -- `long` is the sum of the definition.
--- Assumes nothing.
 use native.Mathlib.Omega.{arith}
 use borrow.Author.Needs.{needs}
 use Rattle.object.specs.Object.{word64}
 use Rattle.object.proofs.field.long.Statement.{statement}
 use Rattle.object.proofs.field.long.Tie as tie
 
-returns : tie.Need-returns
-unfolding word64
-returns c = omega arith
-
 pub long-spec : {M : Type 1} → statement M
+unfolding word64
 long-spec =
     tie.close
     (tie.spec
-    (λ c κs. search needs) (λ c. search needs) (λ c κs. search needs) (λ c. search needs)
-    (λ c. search needs) returns)
+    (λ c κs. search needs) (λ c. search needs) (λ c κs. search needs) (λ c. search needs) (λ c. search needs) (λ c. omega arith))

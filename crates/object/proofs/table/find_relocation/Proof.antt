@@ -1,5 +1,4 @@
 -- `find_relocation` ends inside the table. The measure is the number of headers left.
--- Assumes nothing.
 use Prim.Native.Nat.{_-_, _≤_}
 use borrow.Author.Needs.{needs}
 use Rattle.object.proofs.table.find_relocation.Statement.{statement}
@@ -15,5 +14,5 @@ pub find-relocation-spec : {M : Type 1} → statement M
 find-relocation-spec =
     tie.close
     (tie.spec
-    Inv-loop μ-loop (λ c. search needs) (λ c. search needs) (λ c. search needs) (λ c κs. search needs)
-    (λ c. search needs) (λ c. search needs) (λ c. search needs) (λ c. search needs) (λ c. search needs))
+    Inv-loop μ-loop (λ c. search needs) (λ c. search needs) (λ c. search needs) (λ c κs. search needs) (λ c. search needs)
+    (λ c. search needs) (λ c. search needs) (λ c. search needs) (λ c. search needs))

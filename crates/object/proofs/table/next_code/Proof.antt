@@ -1,5 +1,4 @@
 -- `next_code` stops at an executable section, or at the end. The measure is the number of headers left.
--- Assumes nothing.
 use mathlib.Core.Path.{sym, _∙_}
 use Prim.Native.Nat.{_-_, _≤_}
 use native.Mathlib.Omega.{arith}
@@ -14,15 +13,10 @@ Inv-loop file start count from i₀ i = (from ≤ i) × (i ≤ count)
 abbrev μ-loop : tie.MeasureT-loop
 μ-loop file start count from i₀ i = count - i
 
-returns : tie.Need-returns Inv-loop μ-loop
-returns c = (omega arith, (omega arith, λ l. coded-executable _ _ (sym (c .before .is-code .ensures) ∙ c .if1 .taken)))
-
-returns-2 : tie.Need-returns-2 Inv-loop μ-loop
-returns-2 c = (omega arith, (omega arith, λ l. absurd (omega arith)))
-
 pub next-code-spec : {M : Type 1} → statement M
 next-code-spec =
     tie.close
     (tie.spec
     Inv-loop μ-loop (λ c. search needs) (λ c. search needs) (λ c. search needs) (λ c κs. search needs)
-    returns (λ c. search needs) (λ c. search needs) (λ c. search needs) returns-2)
+    (λ c. (omega arith, (omega arith, λ l. coded-executable _ _ (sym (c .before .is-code .ensures) ∙ c .if1 .taken)))) (λ c. search needs)
+    (λ c. search needs) (λ c. search needs) (λ c. (omega arith, (omega arith, λ l. absurd (omega arith)))))

@@ -1,5 +1,5 @@
 -- `put_text` puts its text. The loop keeps that what it passed of the text is put, and the buffer's length.
--- The measure is what is left of the text. Assumes nothing.
+-- The measure is what is left of the text.
 use mathlib.Core.Path.{refl, _≡_}
 use Prim.Native.Nat.{_-_, _≤_}
 use native.Mathlib.Omega.{arith}
@@ -16,18 +16,12 @@ Inv-loop out₀ at s o₀ i₀ out o i = (i ≤ length s) × ((length out ≡ le
 abbrev μ-loop : tie.MeasureT-loop
 μ-loop out₀ at s o₀ i₀ out o i = length s - i
 
-loop-holds : tie.Need-loop-holds Inv-loop μ-loop
-loop-holds c = (omega arith, (refl, put-none _ _))
-
-loop-again : tie.Need-loop-again Inv-loop μ-loop
-loop-again c = (omega arith, (search needs, put-more _ _ (c .before .before .before .before .before .before .before .before .before .args .s .now) _ _ (c .before .before .before .before .before .before .loop .i) _ _ (c .before .before .before .before .before .before .loop .inv .1 .1) (c .before .before .put .ensures) (omega arith)))
-
-returns : tie.Need-returns Inv-loop μ-loop
-returns c = put-whole _ _ (c .before .before .before .before .args .s .now) _ _ (c .before .loop .i) (c .before .loop .inv .1 .1) (omega arith)
-
 pub put-text-spec : {M : Type 1} → statement M
 put-text-spec =
     tie.close
     (tie.spec
-    Inv-loop μ-loop loop-holds (λ c. search needs) (λ c κs. search needs) (λ c. search needs) (λ c. search needs)
-    loop-again (λ c. search needs) returns)
+    Inv-loop μ-loop (λ c. (omega arith, (refl, put-none _ _))) (λ c. search needs) (λ c κs. search needs) (λ c. search needs)
+    (λ c. search needs)
+    (λ c. (omega arith, (search needs, put-more _ _ (c .before .before .before .before .before .before .before .before .before .args .s .now) _ _ (c .before .before .before .before .before .before .loop .i) _ _ (c .before .before .before .before .before .before .loop .inv .1 .1) (c .before .before .put .ensures) (omega arith))))
+    (λ c. search needs)
+    (λ c. put-whole _ _ (c .before .before .before .before .args .s .now) _ _ (c .before .loop .i) (c .before .loop .inv .1 .1) (omega arith)))

@@ -1,5 +1,4 @@
 -- `read_number` reads in the base that the text's mark says, by one law for each test of the mark.
--- Assumes nothing.
 use mathlib.Core.Path.{sym, ap, _∙_}
 use Prim.Native.Nat.{_-_}
 use native.Mathlib.Omega.{arith}
@@ -11,22 +10,15 @@ use Rattle.text.proofs.Numbers.{numeral-short, numeral-other, numeral-p
 use Rattle.text.proofs.number.read_number.Statement.{statement}
 use Rattle.text.proofs.number.read_number.Tie as tie
 
-returns : tie.Need-returns
-returns c = c .read-decimal .ensures ∙ sym (numeral-short (c .before .before .before .args .s .now) (c .before .if1 .taken))
-
-returns-2 : tie.Need-returns-2
-returns-2 c = c .read-decimal2 .ensures ∙ sym (numeral-other (c .before .before .before .before .before .args .s .now) (c .before .if2 .taken))
-
-returns-3 : tie.Need-returns-3
-returns-3 c = c .read-decimal3 .ensures ∙ sym (numeral-plain (c .before .before .before .before .before .before .before .args .s .now) (c .before .if3 .taken))
-
-returns-4 : tie.Need-returns-4
-returns-4 c = c .read-hexadecimal .ensures ∙ ap (number 16) (take-all (length (c .before .before .before .before .before .before .before .before .args .s .now) - 2) (drop 2 (c .before .before .before .before .before .before .before .before .args .s .now)) (simp length-drop (omega arith))) ∙ sym (numeral-marked (c .before .before .before .before .before .before .before .before .args .s .now) (omega arith) (c .before .before .before .before .if2 .left) (c .before .before .if3 .left))
-
 pub read-number-spec : {M : Type 1} → statement M
 read-number-spec =
     tie.close
     (tie.spec
-    (λ c κs. search needs) returns (λ c. search needs) (λ c κs. search needs) returns-2 (λ c. search needs)
-    (λ c κs. search needs) returns-3 (λ c. search needs) (λ c. search needs) (λ c. search needs)
-    (λ c κs. search needs) returns-4)
+    (λ c κs. search needs)
+    (λ c. c .read-decimal .ensures ∙ sym (numeral-short (c .before .before .before .args .s .now) (c .before .if1 .taken)))
+    (λ c. search needs) (λ c κs. search needs)
+    (λ c. c .read-decimal2 .ensures ∙ sym (numeral-other (c .before .before .before .before .before .args .s .now) (c .before .if2 .taken)))
+    (λ c. search needs) (λ c κs. search needs)
+    (λ c. c .read-decimal3 .ensures ∙ sym (numeral-plain (c .before .before .before .before .before .before .before .args .s .now) (c .before .if3 .taken)))
+    (λ c. search needs) (λ c. search needs) (λ c. search needs) (λ c κs. search needs)
+    (λ c. c .read-hexadecimal .ensures ∙ ap (number 16) (take-all (length (c .before .before .before .before .before .before .before .before .args .s .now) - 2) (drop 2 (c .before .before .before .before .before .before .before .before .args .s .now)) (simp length-drop (omega arith))) ∙ sym (numeral-marked (c .before .before .before .before .before .before .before .before .args .s .now) (omega arith) (c .before .before .before .before .if2 .left) (c .before .before .if3 .left))))

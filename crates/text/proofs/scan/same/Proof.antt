@@ -1,5 +1,5 @@
 -- `same` answers whether two texts are equal. The loop keeps that the rests are equal if and only if the wholes are.
--- The measure is what is left of the texts. Assumes nothing.
+-- The measure is what is left of the texts.
 use mathlib.Core.Path.{_≡_, sym, _∙_}
 use Prim.Native.Nat.{_-_, _≤_}
 use native.Mathlib.Omega.{arith}
@@ -16,21 +16,13 @@ Inv-loop a b i₀ i = (i ≤ length a) × ((length a ≡ length b) × (equal (dr
 abbrev μ-loop : tie.MeasureT-loop
 μ-loop a b i₀ i = length a - i
 
-returns : tie.Need-returns Inv-loop μ-loop
-returns c = sym (equal-length (c .before .args .a .now) (c .before .args .b .now) (c .if1 .taken))
-
-returns-2 : tie.Need-returns-2 Inv-loop μ-loop
-returns-2 c = sym (equal-here (c .before .before .before .before .before .before .args .a .now) (c .before .before .before .before .before .before .args .b .now) (c .before .before .before .before .loop .i) (omega arith) (omega arith) (c .if2 .taken)) ∙ c .before .before .before .before .loop .inv .1 .1
-
-loop-again : tie.Need-loop-again Inv-loop μ-loop
-loop-again c = (omega arith, (omega arith, sym (equal-more (c .before .before .before .before .before .before .args .a .now) (c .before .before .before .before .before .before .args .b .now) (c .before .before .before .before .loop .i) (omega arith) (omega arith) (c .if2 .left)) ∙ c .before .before .before .before .loop .inv .1 .1))
-
-returns-3 : tie.Need-returns-3 Inv-loop μ-loop
-returns-3 c = sym (equal-end (c .before .before .before .args .a .now) (c .before .before .before .args .b .now) (c .before .loop .i) (omega arith) (omega arith)) ∙ c .before .loop .inv .1 .1
-
 pub same-spec : {M : Type 1} → statement M
 same-spec =
     tie.close
     (tie.spec
-    Inv-loop μ-loop returns (λ c. search needs) (λ c. search needs) (λ c. search needs) returns-2
-    (λ c. search needs) (λ c. search needs) loop-again returns-3)
+    Inv-loop μ-loop (λ c. sym (equal-length (c .before .args .a .now) (c .before .args .b .now) (c .if1 .taken))) (λ c. search needs)
+    (λ c. search needs) (λ c. search needs)
+    (λ c. sym (equal-here (c .before .before .before .before .before .before .args .a .now) (c .before .before .before .before .before .before .args .b .now) (c .before .before .before .before .loop .i) (omega arith) (omega arith) (c .if2 .taken)) ∙ c .before .before .before .before .loop .inv .1 .1)
+    (λ c. search needs) (λ c. search needs)
+    (λ c. (omega arith, (omega arith, sym (equal-more (c .before .before .before .before .before .before .args .a .now) (c .before .before .before .before .before .before .args .b .now) (c .before .before .before .before .loop .i) (omega arith) (omega arith) (c .if2 .left)) ∙ c .before .before .before .before .loop .inv .1 .1)))
+    (λ c. sym (equal-end (c .before .before .before .args .a .now) (c .before .before .before .args .b .now) (c .before .loop .i) (omega arith) (omega arith)) ∙ c .before .loop .inv .1 .1))

@@ -5,11 +5,9 @@ use Rattle.text.proofs.Tables.{behind-mark, behind-all}
 use Rattle.text.proofs.table.next_entry.Statement.{statement}
 use Rattle.text.proofs.table.next_entry.Tie as tie
 
-returns : tie.Need-returns
-returns c = (search needs, behind-mark _ _ _ (c .before .find .ensures))
-
-returns-2 : tie.Need-returns-2
-returns-2 c = (search needs, behind-all _ _ _ (c .before .find .ensures) (omega arith))
-
 pub next-entry-spec : {M : Type 1} → statement M
-next-entry-spec = tie.close (tie.spec (λ c κs. search needs) (λ c. search needs) returns returns-2)
+next-entry-spec =
+    tie.close
+    (tie.spec
+    (λ c κs. search needs) (λ c. search needs) (λ c. (search needs, behind-mark _ _ _ (c .before .find .ensures)))
+    (λ c. (search needs, behind-all _ _ _ (c .before .find .ensures) (omega arith))))

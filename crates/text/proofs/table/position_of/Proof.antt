@@ -15,21 +15,14 @@ Inv-loop table n word at₀ k₀ at k = (at ≤ length table) × ((k ≤ n) × (
 abbrev μ-loop : tie.MeasureT-loop
 μ-loop table n word at₀ k₀ at k = n - k
 
-loop-holds : tie.Need-loop-holds Inv-loop μ-loop
-loop-holds c = (search needs, (search needs, let d : c .before .before .args .n - 0 ≡ c .before .before .args .n = omega arith in rw d (omega arith)))
-
-returns : tie.Need-returns Inv-loop μ-loop
-returns c = position-here _ _ (c .before .before .before .loop .at) _ (c .before .before .before .loop .k) (omega arith) (sym (c .if1 .taken) ∙ c .before .stands-at .ensures) ∙ c .before .before .before .loop .inv .1 .1
-
-loop-again : tie.Need-loop-again Inv-loop μ-loop
-loop-again c = (search needs, (omega arith, position-next _ _ (c .before .before .before .before .loop .at) _ (c .before .before .before .before .loop .k) (c .next-entry .result) (omega arith) (sym (c .before .if1 .left) ∙ c .before .before .stands-at .ensures) (c .next-entry .ensures .1) ∙ c .before .before .before .before .loop .inv .1 .1))
-
-returns-2 : tie.Need-returns-2 Inv-loop μ-loop
-returns-2 c = position-none _ _ (c .before .loop .at) _ (c .before .loop .k) (omega arith) ∙ c .before .loop .inv .1 .1
-
 pub position-of-spec : {M : Type 1} → statement M
 position-of-spec =
     tie.close
     (tie.spec
-    Inv-loop μ-loop loop-holds (λ c κs. search needs) returns (λ c κs. search needs) (λ c. search needs)
-    (λ c. search needs) loop-again returns-2)
+    Inv-loop μ-loop
+    (λ c. (search needs, (search needs, let d : c .before .before .args .n - 0 ≡ c .before .before .args .n = omega arith in rw d (omega arith))))
+    (λ c κs. search needs)
+    (λ c. position-here _ _ (c .before .before .before .loop .at) _ (c .before .before .before .loop .k) (omega arith) (sym (c .if1 .taken) ∙ c .before .stands-at .ensures) ∙ c .before .before .before .loop .inv .1 .1)
+    (λ c κs. search needs) (λ c. search needs) (λ c. search needs)
+    (λ c. (search needs, (omega arith, position-next _ _ (c .before .before .before .before .loop .at) _ (c .before .before .before .before .loop .k) (c .next-entry .result) (omega arith) (sym (c .before .if1 .left) ∙ c .before .before .stands-at .ensures) (c .next-entry .ensures .1) ∙ c .before .before .before .before .loop .inv .1 .1)))
+    (λ c. position-none _ _ (c .before .loop .at) _ (c .before .loop .k) (omega arith) ∙ c .before .loop .inv .1 .1))

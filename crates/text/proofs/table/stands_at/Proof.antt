@@ -4,12 +4,9 @@ use Rattle.text.proofs.Tables.{same-at}
 use Rattle.text.proofs.table.stands_at.Statement.{statement}
 use Rattle.text.proofs.table.stands_at.Tie as tie
 
-returns : tie.Need-returns
-returns c = same-at _ _ _ (c .before .before .find .ensures) _ _ (c .same .ensures)
-
 pub stands-at-spec : {M : Type 1} → statement M
 stands-at-spec =
     tie.close
     (tie.spec
-    (λ c κs. search needs) (λ c. search needs) (λ c. search needs) (λ c. search needs)
-    (λ c κs. search needs) returns)
+    (λ c κs. search needs) (λ c. search needs) (λ c. search needs) (λ c. search needs) (λ c κs. search needs)
+    (λ c. same-at _ _ _ (c .before .before .find .ensures) _ _ (c .same .ensures)))

@@ -15,25 +15,11 @@ Inv-loop table k at₀ i₀ at i = (at ≤ length table) × ((i ≤ k) × (entry
 abbrev μ-loop : tie.MeasureT-loop
 μ-loop table k at₀ i₀ at i = k - i
 
-loop-holds : tie.Need-loop-holds Inv-loop μ-loop
-loop-holds c = (search needs, (search needs, let d : c .before .args .k - 0 ≡ c .before .args .k = omega arith in rw d))
-
-next-entry-requires : tie.Need-next-entry-requires Inv-loop μ-loop
-next-entry-requires c κs = search needs
-
-add-i : tie.Need-add-i Inv-loop μ-loop
-add-i c = search needs
-
-loop-less : tie.Need-loop-less Inv-loop μ-loop
-loop-less c = search needs
-
-loop-again : tie.Need-loop-again Inv-loop μ-loop
-loop-again c = (search needs, (omega arith, entry-next (c .before .before .before .before .args .table .now) (c .before .before .loop .at) (c .next-entry .result) _ (c .before .before .loop .i) (omega arith) (c .next-entry .ensures .1) ∙ c .before .before .loop .inv .1 .1))
-
-returns : tie.Need-returns Inv-loop μ-loop
-returns c = (search needs, entry-last (c .before .before .before .args .table .now) (c .before .loop .at) _ (c .before .loop .i) (omega arith) (c .before .loop .inv .1 .1))
-
 pub start-of-spec : {M : Type 1} → statement M
 start-of-spec =
     tie.close
-    (tie.spec Inv-loop μ-loop loop-holds next-entry-requires add-i loop-less loop-again returns)
+    (tie.spec
+    Inv-loop μ-loop (λ c. (search needs, (search needs, let d : c .before .args .k - 0 ≡ c .before .args .k = omega arith in rw d)))
+    (λ c κs. search needs) (λ c. search needs) (λ c. search needs)
+    (λ c. (search needs, (omega arith, entry-next (c .before .before .before .before .args .table .now) (c .before .before .loop .at) (c .next-entry .result) _ (c .before .before .loop .i) (omega arith) (c .next-entry .ensures .1) ∙ c .before .before .loop .inv .1 .1)))
+    (λ c. (search needs, entry-last (c .before .before .before .args .table .now) (c .before .loop .at) _ (c .before .loop .i) (omega arith) (c .before .loop .inv .1 .1))))

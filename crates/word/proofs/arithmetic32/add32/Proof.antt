@@ -1,14 +1,10 @@
 -- `add32` is `alu 32` at `Add`.
--- Assumes nothing.
 use mathlib.Core.Path.{refl}
 use borrow.Author.Needs.{needs}
 use Rattle.word.specs.Word.{alu, cut}
 use Rattle.word.proofs.arithmetic32.add32.Statement.{statement}
 use Rattle.word.proofs.arithmetic32.add32.Tie as tie
 
-returns : tie.Need-returns
-unfolding alu cut
-returns c = refl
-
 pub add32-spec : {M : Type 1} → statement M
-add32-spec = tie.close (tie.spec (λ c. search needs) returns)
+unfolding alu cut
+add32-spec = tie.close (tie.spec (λ c. search needs) (λ c. refl))

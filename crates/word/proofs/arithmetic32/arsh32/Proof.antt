@@ -1,5 +1,4 @@
 -- `arsh32` is `alu 32` at `Arsh`. The low half is extended with its sign and shifted as a word.
--- Assumes nothing.
 use Prim.Native.Nat.{_%_}
 use native.Mathlib.Nat.{mod-eq-of-lt}
 use native.Mathlib.Omega.{arith}

@@ -1,14 +1,10 @@
 -- `neg32` is `alu 32` at `Neg`.
--- Assumes nothing.
 use mathlib.Core.Path.{refl}
 use borrow.Author.Needs.{needs}
 use Rattle.word.specs.Word.{alu, cut}
 use Rattle.word.proofs.arithmetic32.neg32.Statement.{statement}
 use Rattle.word.proofs.arithmetic32.neg32.Tie as tie
 
-returns : tie.Need-returns
-unfolding alu cut
-returns c = λ _. refl
-
 pub neg32-spec : {M : Type 1} → statement M
-neg32-spec = tie.close (tie.spec (λ c. search needs) returns)
+unfolding alu cut
+neg32-spec = tie.close (tie.spec (λ c. search needs) (λ c. λ _. refl))

@@ -1,13 +1,9 @@
 -- `or32` is `alu 32` at `Or`.
--- Assumes nothing.
 use mathlib.Core.Path.{refl}
 use Rattle.word.specs.Word.{alu, cut}
 use Rattle.word.proofs.arithmetic32.or32.Statement.{statement}
 use Rattle.word.proofs.arithmetic32.or32.Tie as tie
 
-returns : tie.Need-returns
-unfolding alu cut
-returns c = refl
-
 pub or32-spec : {M : Type 1} → statement M
-or32-spec = tie.close (tie.spec returns)
+unfolding alu cut
+or32-spec = tie.close (tie.spec (λ c. refl))

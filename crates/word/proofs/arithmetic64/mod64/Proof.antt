@@ -1,5 +1,4 @@
 -- `mod64` is `alu 64` at `Mod`. A word is its own low 64 bits.
--- Assumes nothing.
 use native.Mathlib.Omega.{arith}
 use borrow.Author.Needs.{needs}
 use borrow.Author.Tests.{eq-eqb, ne-eqb}
@@ -8,13 +7,11 @@ use Rattle.word.proofs.Cut.{cut-64}
 use Rattle.word.proofs.arithmetic64.mod64.Statement.{statement}
 use Rattle.word.proofs.arithmetic64.mod64.Tie as tie
 
-returns : tie.Need-returns
-unfolding alu
-returns c = simp (cut-64 {x = c .before .args .d} (omega arith), cut-64 {x = c .before .args .s} (omega arith), eq-eqb _ _ (c .if1 .taken))
-
-returns-2 : tie.Need-returns-2
-unfolding alu
-returns-2 c = simp (cut-64 {x = c .before .args .d} (omega arith), cut-64 {x = c .before .args .s} (omega arith), ne-eqb _ _ (c .if1 .left))
-
 pub mod64-spec : {M : Type 1} → statement M
-mod64-spec = tie.close (tie.spec (λ c. search needs) returns returns-2)
+unfolding alu
+mod64-spec =
+    tie.close
+    (tie.spec
+    (λ c. search needs)
+    (λ c. simp (cut-64 {x = c .before .args .d} (omega arith), cut-64 {x = c .before .args .s} (omega arith), eq-eqb _ _ (c .if1 .taken)))
+    (λ c. simp (cut-64 {x = c .before .args .d} (omega arith), cut-64 {x = c .before .args .s} (omega arith), ne-eqb _ _ (c .if1 .left))))

@@ -1,49 +1,19 @@
 -- `compare64`: each comparison by its function.
--- Assumes nothing.
 use borrow.Author.Needs.{needs}
 use Rattle.word.proofs.by_name.compare64.Statement.{statement}
 use Rattle.word.proofs.by_name.compare64.Tie as tie
-
-returns : tie.Need-returns
-returns c = rw (c .before .enum-told .given .1) (c .eq64 .ensures)
-
-returns-2 : tie.Need-returns-2
-returns-2 c = rw (c .before .enum-told2 .given .1) (c .gt64 .ensures)
-
-returns-3 : tie.Need-returns-3
-returns-3 c = rw (c .before .enum-told3 .given .1) (c .ge64 .ensures)
-
-returns-4 : tie.Need-returns-4
-returns-4 c = rw (c .before .enum-told4 .given .1) (c .set64 .ensures)
-
-returns-5 : tie.Need-returns-5
-returns-5 c = rw (c .before .enum-told5 .given .1) (c .ne64 .ensures)
-
-returns-6 : tie.Need-returns-6
-returns-6 c = rw (c .before .enum-told6 .given .1) (c .sgt64 .ensures)
-
-returns-7 : tie.Need-returns-7
-returns-7 c = rw (c .before .enum-told7 .given .1) (c .sge64 .ensures)
-
-returns-8 : tie.Need-returns-8
-returns-8 c = rw (c .before .enum-told8 .given .1) (c .lt64 .ensures)
-
-returns-9 : tie.Need-returns-9
-returns-9 c = rw (c .before .enum-told9 .given .1) (c .le64 .ensures)
-
-returns-10 : tie.Need-returns-10
-returns-10 c = rw (c .before .enum-told10 .given .1) (c .slt64 .ensures)
-
-returns-11 : tie.Need-returns-11
-returns-11 c = rw (c .before .enum-told11 .given .1) (c .sle64 .ensures)
 
 pub compare64-spec : {M : Type 1} → statement M
 compare64-spec =
     tie.close
     (tie.spec
-    (λ c. search needs) (λ c κs. search needs) (λ c. search needs) (λ c κs. search needs) (λ c. search needs)
-    (λ c κs. search needs) (λ c. search needs) (λ c κs. search needs) (λ c. search needs) (λ c κs. search needs)
-    (λ c. search needs) (λ c κs. search needs) (λ c. search needs) (λ c κs. search needs) (λ c. search needs)
-    (λ c κs. search needs) (λ c. search needs) (λ c κs. search needs) (λ c. search needs) (λ c κs. search needs)
-    (λ c. search needs) (λ c κs. search needs) returns returns-2 returns-3 returns-4 returns-5 returns-6 returns-7
-    returns-8 returns-9 returns-10 returns-11)
+    (λ c. search needs) (λ c κs. search needs) (λ c. search needs) (λ c κs. search needs) (λ c. search needs) (λ c κs. search needs)
+    (λ c. search needs) (λ c κs. search needs) (λ c. search needs) (λ c κs. search needs) (λ c. search needs) (λ c κs. search needs)
+    (λ c. search needs) (λ c κs. search needs) (λ c. search needs) (λ c κs. search needs) (λ c. search needs) (λ c κs. search needs)
+    (λ c. search needs) (λ c κs. search needs) (λ c. search needs) (λ c κs. search needs)
+    (λ c. rw (c .before .enum-told .given .1) (c .eq64 .ensures)) (λ c. rw (c .before .enum-told2 .given .1) (c .gt64 .ensures))
+    (λ c. rw (c .before .enum-told3 .given .1) (c .ge64 .ensures)) (λ c. rw (c .before .enum-told4 .given .1) (c .set64 .ensures))
+    (λ c. rw (c .before .enum-told5 .given .1) (c .ne64 .ensures)) (λ c. rw (c .before .enum-told6 .given .1) (c .sgt64 .ensures))
+    (λ c. rw (c .before .enum-told7 .given .1) (c .sge64 .ensures)) (λ c. rw (c .before .enum-told8 .given .1) (c .lt64 .ensures))
+    (λ c. rw (c .before .enum-told9 .given .1) (c .le64 .ensures)) (λ c. rw (c .before .enum-told10 .given .1) (c .slt64 .ensures))
+    (λ c. rw (c .before .enum-told11 .given .1) (c .sle64 .ensures)))

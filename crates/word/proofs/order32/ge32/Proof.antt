@@ -1,12 +1,8 @@
 -- `ge32` is `compare 32` at `Ge`. Both are cut as the definition does it.
--- Assumes nothing.
 use Rattle.word.specs.Word.{compare, cut}
 use Rattle.word.proofs.order32.ge32.Statement.{statement}
 use Rattle.word.proofs.order32.ge32.Tie as tie
 
-returns : tie.Need-returns
-unfolding compare cut
-returns c = cc
-
 pub ge32-spec : {M : Type 1} → statement M
-ge32-spec = tie.close (tie.spec returns)
+unfolding compare cut
+ge32-spec = tie.close (tie.spec (λ c. cc))

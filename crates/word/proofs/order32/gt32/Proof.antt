@@ -1,12 +1,8 @@
 -- `gt32` is `compare 32` at `Gt`. Both are cut as the definition does it.
--- Assumes nothing.
 use Rattle.word.specs.Word.{compare, cut}
 use Rattle.word.proofs.order32.gt32.Statement.{statement}
 use Rattle.word.proofs.order32.gt32.Tie as tie
 
-returns : tie.Need-returns
-unfolding compare cut
-returns c = cc
-
 pub gt32-spec : {M : Type 1} → statement M
-gt32-spec = tie.close (tie.spec returns)
+unfolding compare cut
+gt32-spec = tie.close (tie.spec (λ c. cc))

@@ -1,13 +1,9 @@
 -- `sge32` is `compare 32` at `Sge`. Both sides are moved alike.
--- Assumes nothing.
 use borrow.Author.Needs.{needs}
 use Rattle.word.specs.Word.{compare}
 use Rattle.word.proofs.order32.sge32.Statement.{statement}
 use Rattle.word.proofs.order32.sge32.Tie as tie
 
-returns : tie.Need-returns
-unfolding compare
-returns c = cc
-
 pub sge32-spec : {M : Type 1} → statement M
-sge32-spec = tie.close (tie.spec (λ c κs. search needs) (λ c κs. search needs) returns)
+unfolding compare
+sge32-spec = tie.close (tie.spec (λ c κs. search needs) (λ c κs. search needs) (λ c. cc))

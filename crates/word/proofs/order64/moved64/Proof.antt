@@ -1,5 +1,4 @@
 -- `moved64` is `moved 64`: the sum that wraps.
--- Assumes nothing.
 use native.Mathlib.Omega.{arith}
 use borrow.Author.Needs.{needs}
 use Rattle.word.specs.Word.{moved}
@@ -7,9 +6,6 @@ use Rattle.word.proofs.Cut.{cut-64}
 use Rattle.word.proofs.order64.moved64.Statement.{statement}
 use Rattle.word.proofs.order64.moved64.Tie as tie
 
-returns : tie.Need-returns
-unfolding moved
-returns c = cc (cut-64 {x = c .before .args .x} (omega arith))
-
 pub moved64-spec : {M : Type 1} → statement M
-moved64-spec = tie.close (tie.spec (λ c κs. search needs) returns)
+unfolding moved
+moved64-spec = tie.close (tie.spec (λ c κs. search needs) (λ c. cc (cut-64 {x = c .before .args .x} (omega arith))))

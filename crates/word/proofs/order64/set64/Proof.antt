@@ -1,14 +1,10 @@
 -- `set64` is `compare 64` at `Set`. A word is its own low 64 bits.
--- Assumes nothing.
 use native.Mathlib.Omega.{arith}
 use Rattle.word.specs.Word.{compare}
 use Rattle.word.proofs.Cut.{cut-64}
 use Rattle.word.proofs.order64.set64.Statement.{statement}
 use Rattle.word.proofs.order64.set64.Tie as tie
 
-returns : tie.Need-returns
-unfolding compare
-returns c = cc (cut-64 {x = c .args .d} (omega arith), cut-64 {x = c .args .s} (omega arith))
-
 pub set64-spec : {M : Type 1} → statement M
-set64-spec = tie.close (tie.spec returns)
+unfolding compare
+set64-spec = tie.close (tie.spec (λ c. cc (cut-64 {x = c .args .d} (omega arith), cut-64 {x = c .args .s} (omega arith))))

@@ -1,13 +1,9 @@
 -- `sle64` is `compare 64` at `Sle`. Both sides are moved alike.
--- Assumes nothing.
 use borrow.Author.Needs.{needs}
 use Rattle.word.specs.Word.{compare}
 use Rattle.word.proofs.order64.sle64.Statement.{statement}
 use Rattle.word.proofs.order64.sle64.Tie as tie
 
-returns : tie.Need-returns
-unfolding compare
-returns c = cc
-
 pub sle64-spec : {M : Type 1} → statement M
-sle64-spec = tie.close (tie.spec (λ c κs. search needs) (λ c κs. search needs) returns)
+unfolding compare
+sle64-spec = tie.close (tie.spec (λ c κs. search needs) (λ c κs. search needs) (λ c. cc))

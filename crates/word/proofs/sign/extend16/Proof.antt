@@ -1,5 +1,4 @@
 -- `extend16` is `extend 16`. Half the range is added at the width and taken off at 64 bits.
--- Assumes nothing.
 use native.Mathlib.Omega.{arith}
 use borrow.Author.Needs.{needs}
 use Rattle.word.specs.Word.{cut, moved}
@@ -7,9 +6,10 @@ use Rattle.word.proofs.Extend.{extend-of-moved}
 use Rattle.word.proofs.sign.extend16.Statement.{statement}
 use Rattle.word.proofs.sign.extend16.Tie as tie
 
-returns : tie.Need-returns
-unfolding moved cut
-returns c = extend-of-moved 16 (omega arith) (omega arith) _ _ (omega arith) (c .wrapping-sub-u64 .ensures)
-
 pub extend16-spec : {M : Type 1} → statement M
-extend16-spec = tie.close (tie.spec (λ c. search needs) (λ c κs. search needs) returns)
+unfolding moved cut
+extend16-spec =
+    tie.close
+    (tie.spec
+    (λ c. search needs) (λ c κs. search needs)
+    (λ c. extend-of-moved 16 (omega arith) (omega arith) _ _ (omega arith) (c .wrapping-sub-u64 .ensures)))
