@@ -6,7 +6,6 @@ pub mod Computing
 pub mod CountLaws
 pub mod Covering
 pub mod Exact
-pub mod Fits
 pub mod Joined
 pub mod Laws
 pub mod LearnLaws
