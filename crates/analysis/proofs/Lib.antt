@@ -2,6 +2,7 @@ pub mod Annotated
 pub mod ExactEffects
 pub mod FormLaws
 pub mod Judgement
+pub mod Literal
 pub mod LayoutFree
 pub mod Meaning
 pub mod Paths
@@ -21,3 +22,5 @@ pub mod Vectors
 pub mod WithoutLoads
 pub mod Work
 pub mod Worlds
+pub mod Whole
+pub mod LongerRecord

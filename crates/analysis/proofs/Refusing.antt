@@ -184,11 +184,11 @@ module _ (n i : ℕ) where
 
 -- ---- a lawful effect is sent on without a refusal
 
-abbrev Goes : Progress → Type 0
+abbrev pub Goes : Progress → Type 0
 Goes (halted reason p work) = ⊥
 Goes (onward p work) = Unit {0}
 
-send-goes : (n j : ℕ) (o : Option Facts) (p : Waiting) (work : ℕ) → j < n → Goes (send n j o p work)
+pub send-goes : (n j : ℕ) (o : Option Facts) (p : Waiting) (work : ℕ) → j < n → Goes (send n j o p work)
 unfolding send
 send-goes n j none p work l = tt
 send-goes n j (some a) p work l = rw (lt-ltb j n l) tt
@@ -247,11 +247,11 @@ pub some-instruction : (program : List ℕ) (R : ℕ) → HasForm program R → 
 some-instruction program R form = length-some (length program) (form .orderly .good-length)
 
 module _ (program : List ℕ) (R : ℕ) (form : HasForm program R) where
-  abbrev Tells : ℕ → Waiting → Option Facts → Progress → Type 0
+  abbrev pub Tells : ℕ → Waiting → Option Facts → Progress → Type 0
   Tells i p w (halted reason q work) = (a : Facts) × (w ≡ some a) × (effect R i a (instruction program i) ≡ Refuse reason) × (q ≡ p)
   Tells i p w (onward q work) = Unit {0}
 
-  visit-tells : (i : ℕ) → i < length program / 8 → (p : Waiting) (work : ℕ) (w : Option Facts) → Tells i p w (visit program R i p work w)
+  pub visit-tells : (i : ℕ) → i < length program / 8 → (p : Waiting) (work : ℕ) (w : Option Facts) → Tells i p w (visit program R i p work w)
   unfolding visit
   visit-tells i l p work none = tt
   visit-tells i l p work (some a) =

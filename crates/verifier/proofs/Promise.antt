@@ -8,6 +8,7 @@ use lib.ListN.{length}
 use lib.Dec.{ltb}
 use Rattle.analysis.specs.Judged.{judged}
 use Rattle.analysis.proofs.Theorem.{accepted-safe}
+use Rattle.analysis.proofs.Whole.{judged-whole}
 use Rattle.analysis.proofs.Work.{work-linear}
 use Rattle.verifier.specs.declared.Answer.{Answer}
 use Rattle.verifier.specs.declared.Answer.the-variants.{Judgement, ScratchTooSmall}
@@ -20,5 +21,5 @@ the-answer-promises program R size r e =
     subst (Promises program R) (sym e) (go (passesForm program R && ltb size (words (length program / 8))))
   where
     go : (b : Bool) → Promises program R (cond b (ScratchTooSmall (words (length program / 8))) (Judgement (judged program R)))
-    go true = record { yes-is-safe = λ h. absurd h; work-is-linear = omega arith }
-    go false = record { yes-is-safe = accepted-safe program R; work-is-linear = work-linear program R }
+    go true = record { yes-is-safe = λ h. absurd h; whole = tt; work-is-linear = omega arith }
+    go false = record { yes-is-safe = accepted-safe program R; whole = judged-whole program R; work-is-linear = work-linear program R }

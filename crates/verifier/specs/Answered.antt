@@ -11,6 +11,7 @@ use Rattle.analysis.specs.declared.Finding.{Finding}
 use Rattle.analysis.specs.declared.Finding.the-variants.{Accepted, Refused}
 use Rattle.analysis.specs.Paths.{connected}
 use Rattle.analysis.specs.Judged.{formed, followed, judged}
+use Rattle.analysis.specs.Promise.{Whole}
 use Rattle.analysis.specs.Safe.{Safe}
 use Rattle.verifier.specs.declared.Answer.{Answer}
 use Rattle.verifier.specs.declared.Answer.the-variants.{Judgement, ScratchTooSmall}
@@ -54,7 +55,14 @@ abbrev pub workOf : Answer → ℕ
 workOf (Judgement j) = j .work
 workOf (ScratchTooSmall w) = 0
 
--- a yes says that the program is safe; little work was done
+-- what was judged is the answer that `Promise` asks for: yes if and only if the form is good and no index refuses what flows there, no, for
+-- values, if and only if this is the lowest index that does
+abbrev pub IsWhole : List ℕ → ℕ → Answer → Type 0
+IsWhole program R (Judgement j) = Whole program R (j .finding)
+IsWhole program R (ScratchTooSmall w) = Unit {0}
+
+-- a yes says that the program is safe; what is refused is refused rightly; little work was done
 pub record Promises (program : List ℕ) (R : ℕ) (r : Answer) : Type 0 where
   pub yes-is-safe : IsYes r → Safe program R
+  pub whole : IsWhole program R r
   pub work-is-linear : workOf r ≤ 25 * (length program / 8) + 11
