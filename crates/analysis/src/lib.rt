@@ -29,6 +29,12 @@ pub struct Judged {
     pub work: u64,
 }
 
+// What a verifier says of a program that is given to it with memory to work in.
+pub enum Answer {
+    Judgement(Judged),
+    ScratchTooSmall { words: u64 },
+}
+
 pub enum Region {
     Record,
     Stack,

@@ -1,15 +1,15 @@
 // The listing of a program, alone or with what is known at each index.
 ghost use Prim.Native.Nat.{_+_, _≤_};
 ghost use lib.ListN.{length};
+use analysis::Answer;
 use analysis::Finding;
 use explain::joins::note_ways;
 use explain::line::explain_line;
 use listing::line::show_line;
-use reports::said::conclude;
+use reports::answer::conclude;
 use terminal::ending::fail;
 use terminal::ending::say;
 use terminal::ending::status;
-use verifier::Answer;
 use verifier::verify::annotate;
 
 fn lines_of(program: &[u8]) -> usize

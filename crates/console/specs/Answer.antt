@@ -10,8 +10,8 @@ use Rattle.machine.specs.declared.outcome.Outcome.the-variants.{Verdict, Fault,
 use Rattle.machine.specs.Machine.{interpreted}
 use Rattle.analysis.specs.declared.Finding.{Finding}
 use Rattle.analysis.specs.Judged.{pair}
-use Rattle.verifier.specs.declared.Answer.{Answer}
-use Rattle.verifier.specs.declared.Answer.the-variants.{Judgement, ScratchTooSmall}
+use Rattle.analysis.specs.declared.Answer.{Answer}
+use Rattle.analysis.specs.declared.Answer.the-variants.{Judgement, ScratchTooSmall}
 use Rattle.verifier.specs.Answered.{answered}
 use Rattle.reasons.specs.Numbers.{faultNumber}
 use Rattle.text.specs.Scan.{equal}

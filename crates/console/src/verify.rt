@@ -8,10 +8,10 @@ use crate::answer::Reply;
 use crate::request::bytes_at;
 use crate::request::decimal_at;
 use crate::request::next_word;
+use analysis::Answer;
 use text::hex::Bytes;
 use text::number::Number;
 use text::scan::skip;
-use verifier::Answer;
 
 fn found_by(answer: Answer) -> Reply
     ensures { λ r. ⌜ r ≡ foundBy answer ⌝ }

@@ -8,14 +8,20 @@ use orders::Order;
 use orders::Parsed;
 use orders::Verb;
 use orders::parse;
-use reports::said::judge;
+use reports::answer::conclude;
 use terminal::arguments::help_on;
 use terminal::arguments::refuse_arguments;
 use terminal::arguments::refuse_words;
 use terminal::arguments::take_arguments;
 use terminal::ending::status;
 use terminal::program::fetch_program;
+use verifier::verify::verify;
 use waiting::MOST_WORDS;
+
+fn judge(program: &[u8], record_len: u64, scratch: &mut [u64], out: &mut [u8]) {
+    let answer = verify(program, record_len, scratch);
+    conclude(answer, program, out);
+}
 
 fn judge_file(
     args: &[u8],

@@ -19,7 +19,7 @@ module _ (x y : ℕ) where
   unfolding halves
   halves-upper = omega arith
 
-  halves-low : halves x y % 2 ^ 32 ≡ y % 2 ^ 32
+  pub halves-low : halves x y % 2 ^ 32 ≡ y % 2 ^ 32
   unfolding halves
   halves-low = omega arith
 
@@ -44,17 +44,18 @@ halves-of-itself x = omega arith
 pub record LowAgrees (p : Bits) (z : ℕ) : Type 0 where
   pub agrees : (k : ℕ) → k < 32 → bit k (p .mask) ≡ 0 → bit k z ≡ bit k (p .value)
 
--- a number so completed is one of the pair; so agreement goes from a pair to one that has its numbers
-pub low-agrees-within : (p q : Bits) (z : ℕ) → p .value < 2 ^ 64 → BitsWithin p q → LowAgrees p z → LowAgrees q z
-low-agrees-within p q z h w a =
-    record { agrees = λ k l e. sym (halves-low-bit (p .value) z k l) ∙ w (halves (p .value) z) member .agrees k (omega arith) e }
+-- a number so completed is one of the pair
+pub completed : (p : Bits) (z : ℕ) → p .value < 2 ^ 64 → LowAgrees p z → Mem 64 p (halves (p .value) z)
+completed p z h a = record { fits = halves-fit (p .value) z h; agrees = λ k l e. at k e (decLt k 32) }
   where
     at : (k : ℕ) → bit k (p .mask) ≡ 0 → Dec (k < 32) → bit k (halves (p .value) z) ≡ bit k (p .value)
     at k e (yes l) = halves-low-bit (p .value) z k l ∙ a .agrees k l e
     at k e (no n) = halves-high-bit (p .value) z k n
 
-    member : Mem 64 p (halves (p .value) z)
-    member = record { fits = halves-fit (p .value) z h; agrees = λ k l e. at k e (decLt k 32) }
+-- so agreement goes from a pair to one that has its numbers
+pub low-agrees-within : (p q : Bits) (z : ℕ) → p .value < 2 ^ 64 → BitsWithin p q → LowAgrees p z → LowAgrees q z
+low-agrees-within p q z h w a =
+    record { agrees = λ k l e. sym (halves-low-bit (p .value) z k l) ∙ w (halves (p .value) z) (completed p z h a) .agrees k (omega arith) e }
 
 -- ---- a pair with another low half
 module _ (p q : Bits) where

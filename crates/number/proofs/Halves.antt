@@ -45,7 +45,7 @@ module _ (n : Number) where
   unfolding lowHalf alu
   low-half-has x i = computed-sound 32 (inr refl) Mov n n x x i i
 
-  low-half-form : Well 64 (n .bits) → Well 64 (lowHalf n .bits)
+  pub low-half-form : Well 64 (n .bits) → Well 64 (lowHalf n .bits)
   unfolding lowHalf
   low-half-form g = computed-form 32 (inr refl) Mov n n g g
 
@@ -75,14 +75,14 @@ unfolding calculated formula low
 low-of-calculated p x a =
     record { agrees = λ k l e. a .agrees k l (cut-bit 32 k (p .mask) l ∙ e) ∙ cut-bit 32 k (p .value) l }
 
-low-half-agrees : (n : Number) (x : ℕ) → Well 64 (n .bits) → LowAgrees (lowHalf n .bits) x → LowAgrees (n .bits) x
+pub low-half-agrees : (n : Number) (x : ℕ) → Well 64 (n .bits) → LowAgrees (lowHalf n .bits) x → LowAgrees (n .bits) x
 unfolding lowHalf
 low-half-agrees n x g a =
     low-of-calculated (n .bits) x
     (low-agrees-within (lowHalf n .bits) (calculated 32 Mov (n .bits) (n .bits)) x (low-half-form n g .value-fits) (computed-bits-within 32 Mov n n) a)
 
 -- ---- a number with another low half
-member-agrees : (p : Bits) (x : ℕ) → Mem 64 p (cut 32 x) → LowAgrees p x
+pub member-agrees : (p : Bits) (x : ℕ) → Mem 64 p (cut 32 x) → LowAgrees p x
 member-agrees p x i = record { agrees = λ k l e. sym (cut-bit 32 k x l) ∙ i .agrees k (omega arith) e }
 
 module _ (r t : Range) where
@@ -286,7 +286,7 @@ moved-half-exact : (x : ℕ) → x < 2 ^ 64 → movedHalf (exact x) ≡ exact (a
 unfolding movedHalf
 moved-half-exact x h = computed-exact 32 (inr refl) Add x (2 ^ 31) h (lit< tt)
 
-low-half-exact : (x : ℕ) → x < 2 ^ 64 → lowHalf (exact x) ≡ exact (cut 32 x)
+pub low-half-exact : (x : ℕ) → x < 2 ^ 64 → lowHalf (exact x) ≡ exact (cut 32 x)
 unfolding lowHalf alu
 low-half-exact x h = computed-exact 32 (inr refl) Mov x x h h
 

@@ -16,6 +16,7 @@ use Rattle.number.specs.declared.Number.{Number}
 use Rattle.number.specs.declared.Refined.{Refined}
 use Rattle.number.specs.declared.Refined.the-variants.{Excluded, Possible}
 use Rattle.number.specs.Meaning.{Within, RangeWithin, Tightest, Left, Going}
+use Rattle.number.specs.Demanded.{Going32}
 use Rattle.number.specs.Sharpen.{exact}
 use Rattle.number.specs.Computed.{modulo, computed}
 use Rattle.number.specs.Compare.{common, refined}
@@ -71,10 +72,6 @@ tighter : (S : ℕ → Type 0) (t t′ : Range) → RangeWithin t′ t → Tight
 tighter S t t′ w h q covers =
     let k = h q covers in
     record { low = le-trans (k .low) (w .low); high = le-trans (w .high) (k .high) }
-
--- the numbers of a range whose low halves go a way out of their comparison with k
-abbrev pub Going32 : Comparison → Bool → Range → ℕ → ℕ → Type 0
-Going32 c way d k x = Within d x × (compare 32 c x k ≡ way)
 
 module _ (c : Comparison) (way : Bool) (plain : Unsigned c) (d : Number) (k : ℕ) (small : Below (2 ^ 32) (d .range)) (word : k < 2 ^ 64) where
   abbrev s : Number

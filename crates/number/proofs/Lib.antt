@@ -1,4 +1,5 @@
 pub mod AgainstKnown
+pub mod AllDemanded
 pub mod Cases
 pub mod Compare
 pub mod CompareVectors
@@ -10,6 +11,7 @@ pub mod HalfOrders
 pub mod Halves
 pub mod HalvesAgainstKnown
 pub mod HalvesVectors
+pub mod HalvesWithin
 pub mod Known
 pub mod Laws
 pub mod Limits

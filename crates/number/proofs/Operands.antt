@@ -10,15 +10,12 @@ use Rattle.word.specs.declared.Operation.the-variants.{Add, Sub, Mul, Div, Or, 
 use Rattle.word.proofs.Bit.{low-le}
 use Rattle.known_bits.specs.Pair.{top}
 use Rattle.known_bits.proofs.Tight.{mem-low, mem-high}
+pub use Rattle.number.specs.Demanded.{Wide}
 use Rattle.number.specs.declared.Range.{Range}
 use Rattle.number.specs.declared.Number.{Number}
 use Rattle.number.specs.Meaning.{Within, In}
 use Rattle.number.specs.Computed.{block, modulo, second}
 use Rattle.number.proofs.Cases.{by-equal}
-
--- the widths of the machine
-abbrev pub Wide : ℕ → Type 0
-Wide w = (w ≡ 64) ⊎ (w ≡ 32)
 
 -- what holds of both widths
 pub at-either-width : (P : ℕ → Type 0) → P 64 → P 32 → (w : ℕ) → Wide w → P w

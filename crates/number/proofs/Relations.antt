@@ -12,6 +12,7 @@ use Rattle.word.specs.Word.{cut, moved, compare}
 use Rattle.word.specs.declared.Comparison.{Comparison}
 use Rattle.word.specs.declared.Comparison.the-variants.{Eq, Gt, Ge, Set, Ne, Sgt, Sge, Lt, Le, Slt, Sle}
 use Rattle.word.proofs.Cut.{cut-64}
+pub use Rattle.number.specs.Demanded.{Unsigned, eq, ne, gt, ge, lt, le}
 use Rattle.number.specs.declared.Number.{Number}
 use Rattle.number.specs.declared.Refined.{Refined}
 use Rattle.number.specs.Compare as defined
@@ -185,15 +186,7 @@ all-but-set-are-orderings Le false n = tt
 all-but-set-are-orderings Slt false n = tt
 all-but-set-are-orderings Sle false n = tt
 
--- ---- the comparisons of unsigned numbers, and the four relations that they need
-pub data Unsigned : Comparison → Type 0 where
-  eq : Unsigned Eq
-  ne : Unsigned Ne
-  gt : Unsigned Gt
-  ge : Unsigned Ge
-  lt : Unsigned Lt
-  le : Unsigned Le
-
+-- ---- the four relations that the comparisons of unsigned numbers need
 pub data Plain : Relation → Type 0 where
   below : (gap : ℕ) → Plain (Below gap)
   above : (gap : ℕ) → Plain (Exchanged (Below gap))

@@ -7,6 +7,7 @@ use native.Mathlib.Omega.{arith}
 use lib.Pow.{pow-pos}
 use Rattle.word.specs.declared.Operation.{Operation}
 use Rattle.word.specs.declared.Operation.the-variants.{Div, Or, And, Rsh, Mod, Xor, Mov}
+pub use Rattle.number.specs.Demanded.{Below}
 use Rattle.number.specs.declared.Range.{Range}
 use Rattle.number.specs.declared.Number.{Number}
 use Rattle.number.specs.Ranges.{straight, crossed, quotientRange, sameQuotient, restRange, ranged}
@@ -16,11 +17,6 @@ use Rattle.number.proofs.Computing.{computed-range-within}
 use Rattle.number.proofs.Limits.{and-range-at-most-the-first, and-range-at-most-the-second, or-range-no-longer, xor-range-no-longer, rest-at-most-the-dividend, rest-below-the-divisor}
 use Rattle.number.proofs.Operands.{block-keeps, Wide, modulo-below, modulo-low-below}
 use Rattle.number.proofs.Results.{word, quotient-at-most, rest-at-most, right-at-most}
-
--- both ends are below m
-pub record Below (m : ℕ) (r : Range) : Type 0 where
-  pub low : r .lo < m
-  pub high : r .hi < m
 
 pub block-of-small : (m : ℕ) (r : Range) → Below m r → block m r ≡ r
 block-of-small m r h = block-keeps m 0 (r .lo) (r .hi) r (omega arith) (omega arith) (h .low) (h .high)

@@ -9,6 +9,7 @@ use Rattle.number.specs.declared.Number.{Number}
 use Rattle.number.specs.Meaning.{In, RangeWithin}
 use Rattle.number.specs.Sharpen.{everything}
 use Rattle.number.specs.Ranges.{straight, crossed, sumRange, differenceRange, ranged}
+use Rattle.number.specs.Demanded.{SumEnds, DifferenceEnds}
 use Rattle.number.specs.Computed.{block, modulo, second, computedRange, computed}
 use Rattle.number.proofs.Cases.{by-less, by-at-most}
 use Rattle.number.proofs.Operands.{Wide, at-either-width, same-ends, block-keeps, block-of-more, modulo-in, modulo-below}
@@ -74,16 +75,6 @@ module _ (a b : Range) (na : a .lo ≤ a .hi) (nb : b .lo ≤ b .hi) (ha : a .hi
       (λ _. by-less (λ r. r ≡ everything 64) (a .hi) (b .lo) (λ m. absurd (omega arith)) (λ _. refl))
 
 -- ---- at either width: u and v are the operands cut to w bits
-pub record SumEnds (w : ℕ) (u v r : Range) : Type 0 where
-  pub exact : u .hi + v .hi < 2 ^ w → r ≡ record { lo = u .lo + v .lo; hi = u .hi + v .hi }
-  pub wraps : 2 ^ w ≤ u .lo + v .lo → r ≡ record { lo = u .lo + v .lo - 2 ^ w; hi = u .hi + v .hi - 2 ^ w }
-  pub unknown : u .lo + v .lo < 2 ^ w → 2 ^ w ≤ u .hi + v .hi → r ≡ everything w
-
-pub record DifferenceEnds (w : ℕ) (u v r : Range) : Type 0 where
-  pub exact : v .hi ≤ u .lo → r ≡ record { lo = u .lo - v .hi; hi = u .hi - v .lo }
-  pub wraps : u .hi < v .lo → r ≡ record { lo = u .lo + 2 ^ w - v .hi; hi = u .hi + 2 ^ w - v .lo }
-  pub unknown : u .lo < v .hi → v .lo ≤ u .hi → r ≡ everything w
-
 -- the same for a range that is known to be another
 block-at : (m q l h l′ h′ : ℕ) (r : Range) → r ≡ record { lo = l′; hi = h′ } → l′ ≡ q * m + l → h′ ≡ q * m + h → l < m → h < m
     → block m r ≡ record { lo = l; hi = h }
@@ -142,37 +133,40 @@ module _ (w : ℕ) (wide : Wide w) (a b : Number) (na : modulo (2 ^ w) a .lo ≤
       difference-ends-64 difference-ends-32 w wide (modulo (2 ^ w) a) (modulo (2 ^ w) b) na nb (modulo-below w a) (modulo-below w b)
 
 -- ---- in the words of the Numbers' own ranges
-module _ (n : Number) (x : ℕ) (i : In n x) where
-  cut-has-a-member : modulo (2 ^ 64) n .lo ≤ modulo (2 ^ 64) n .hi
-  cut-has-a-member = let m = modulo-in 64 n (omega arith) x i in omega arith
+module _ (w : ℕ) (wide : Wide w) (n : Number) (x : ℕ) (i : In n x) where
+  narrow : w ≤ 64
+  narrow = at-either-width (λ w. w ≤ 64) (omega arith) (omega arith) w wide
 
-  pub cut-within : n .range .hi < 2 ^ 64 → RangeWithin (modulo (2 ^ 64) n) (n .range)
+  cut-has-a-member : modulo (2 ^ w) n .lo ≤ modulo (2 ^ w) n .hi
+  cut-has-a-member = let m = modulo-in w n narrow x i in omega arith
+
+  pub cut-within : n .range .hi < 2 ^ w → RangeWithin (modulo (2 ^ w) n) (n .range)
   unfolding modulo
   cut-within h =
-      let e = block-keeps (2 ^ 64) 0 (n .range .lo) (n .range .hi) (n .range) (omega arith) (omega arith) (omega (arith, i .range .low, i .range .high)) h in
-      let l : block (2 ^ 64) (n .range) .lo ≡ n .range .lo = ap (λ (r : Range). r .lo) e in
-      let t : block (2 ^ 64) (n .range) .hi ≡ n .range .hi = ap (λ (r : Range). r .hi) e in
+      let e = block-keeps (2 ^ w) 0 (n .range .lo) (n .range .hi) (n .range) (omega arith) (omega arith) (omega (arith, i .range .low, i .range .high)) h in
+      let l : block (2 ^ w) (n .range) .lo ≡ n .range .lo = ap (λ (r : Range). r .lo) e in
+      let t : block (2 ^ w) (n .range) .hi ≡ n .range .hi = ap (λ (r : Range). r .hi) e in
       record { low = omega arith; high = omega arith }
 
-module _ (a b : Number) (x y : ℕ) (i : In a x) (j : In b y) where
-  pub sum-within : a .range .hi + b .range .hi < 2 ^ 64
-      → RangeWithin (computed 64 Add a b .range) (record { lo = a .range .lo + b .range .lo; hi = a .range .hi + b .range .hi })
+module _ (w : ℕ) (wide : Wide w) (a b : Number) (x y : ℕ) (i : In a x) (j : In b y) where
+  pub sum-within : a .range .hi + b .range .hi < 2 ^ w
+      → RangeWithin (computed w Add a b .range) (record { lo = a .range .lo + b .range .lo; hi = a .range .hi + b .range .hi })
   sum-within n =
-      let u = cut-within a x i (omega arith) in
-      let v = cut-within b y j (omega arith) in
-      let e = sum-ends 64 (inl refl) a b (cut-has-a-member a x i) (cut-has-a-member b y j) .exact (omega arith) in
-      let l : computedRange 64 Add a b .lo ≡ modulo (2 ^ 64) a .lo + modulo (2 ^ 64) b .lo = ap (λ (r : Range). r .lo) e in
-      let h : computedRange 64 Add a b .hi ≡ modulo (2 ^ 64) a .hi + modulo (2 ^ 64) b .hi = ap (λ (r : Range). r .hi) e in
-      let c = computed-range-within 64 Add a b in
+      let u = cut-within w wide a x i (omega arith) in
+      let v = cut-within w wide b y j (omega arith) in
+      let e = sum-ends w wide a b (cut-has-a-member w wide a x i) (cut-has-a-member w wide b y j) .exact (omega arith) in
+      let l : computedRange w Add a b .lo ≡ modulo (2 ^ w) a .lo + modulo (2 ^ w) b .lo = ap (λ (r : Range). r .lo) e in
+      let h : computedRange w Add a b .hi ≡ modulo (2 ^ w) a .hi + modulo (2 ^ w) b .hi = ap (λ (r : Range). r .hi) e in
+      let c = computed-range-within w Add a b in
       record { low = omega arith; high = omega arith }
 
-  pub difference-within : a .range .hi < 2 ^ 64 → b .range .hi ≤ a .range .lo
-      → RangeWithin (computed 64 Sub a b .range) (record { lo = a .range .lo - b .range .hi; hi = a .range .hi - b .range .lo })
+  pub difference-within : a .range .hi < 2 ^ w → b .range .hi ≤ a .range .lo
+      → RangeWithin (computed w Sub a b .range) (record { lo = a .range .lo - b .range .hi; hi = a .range .hi - b .range .lo })
   difference-within t n =
-      let u = cut-within a x i t in
-      let v = cut-within b y j (omega (arith, i .range .low, i .range .high)) in
-      let e = difference-ends 64 (inl refl) a b (cut-has-a-member a x i) (cut-has-a-member b y j) .exact (omega arith) in
-      let l : computedRange 64 Sub a b .lo ≡ modulo (2 ^ 64) a .lo - modulo (2 ^ 64) b .hi = ap (λ (r : Range). r .lo) e in
-      let h : computedRange 64 Sub a b .hi ≡ modulo (2 ^ 64) a .hi - modulo (2 ^ 64) b .lo = ap (λ (r : Range). r .hi) e in
-      let c = computed-range-within 64 Sub a b in
+      let u = cut-within w wide a x i t in
+      let v = cut-within w wide b y j (omega (arith, i .range .low, i .range .high)) in
+      let e = difference-ends w wide a b (cut-has-a-member w wide a x i) (cut-has-a-member w wide b y j) .exact (omega arith) in
+      let l : computedRange w Sub a b .lo ≡ modulo (2 ^ w) a .lo - modulo (2 ^ w) b .hi = ap (λ (r : Range). r .lo) e in
+      let h : computedRange w Sub a b .hi ≡ modulo (2 ^ w) a .hi - modulo (2 ^ w) b .lo = ap (λ (r : Range). r .hi) e in
+      let c = computed-range-within w Sub a b in
       record { low = omega arith; high = omega arith }

@@ -1,5 +1,6 @@
 pub mod Compare
 pub mod Computed
+pub mod Demanded
 pub mod Halves
 pub mod Meaning
 pub mod Ranges

@@ -16,8 +16,8 @@ use Rattle.analysis.specs.declared.Judged.{Judged}
 use Rattle.analysis.specs.Judged.{judged}
 use Rattle.analysis.specs.Safe.{Bytes, Answer, Safe, Allowed}
 use Rattle.analysis.proofs.Worlds.{not-refused-iff-allowed}
-use Rattle.verifier.specs.declared.Answer as verifier
-use Rattle.verifier.specs.declared.Answer.the-variants.{Judgement, ScratchTooSmall}
+use Rattle.analysis.specs.declared.Answer as verifier
+use Rattle.analysis.specs.declared.Answer.the-variants.{Judgement, ScratchTooSmall}
 use Rattle.waiting.specs.Layout.{words}
 use Rattle.verifier.specs.Answered.{IsYes, Promises, passesForm, answered}
 use Rattle.probewarden.specs.EndToEnd.{NoYes, Runs, Stays}

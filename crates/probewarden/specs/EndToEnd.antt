@@ -12,8 +12,8 @@ use Rattle.analysis.specs.declared.Finding.{Finding}
 use Rattle.analysis.specs.declared.Finding.the-variants.{Accepted}
 use Rattle.analysis.specs.Judged.{judged}
 use Rattle.analysis.specs.Safe.{Answer, Allowed}
-use Rattle.verifier.specs.declared.Answer as verifier
-use Rattle.verifier.specs.declared.Answer.the-variants.{Judgement, ScratchTooSmall}
+use Rattle.analysis.specs.declared.Answer as verifier
+use Rattle.analysis.specs.declared.Answer.the-variants.{Judgement, ScratchTooSmall}
 use Rattle.verifier.specs.Answered.{answered}
 use Rattle.probewarden.specs.declared.Done.{Done}
 use Rattle.probewarden.specs.declared.Done.the-variants.{NotRun, Ran}

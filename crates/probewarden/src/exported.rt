@@ -8,6 +8,7 @@ ghost use Rattle.text.specs.Buffer.{Put};
 ghost use Rattle.probewarden.specs.Encoding.{ended, headed};
 ghost use Rattle.probewarden.specs.Exported.{enough, Verified, Interpreted};
 ghost use Rattle.reasons.specs.Names.{reasonName, faultName};
+use analysis::Answer;
 use analysis::Finding;
 use interpreter::interpret;
 use machine::outcome::Outcome;
@@ -16,7 +17,6 @@ use reasons::put_fault;
 use reasons::put_reason;
 use reasons::reason_number;
 use text::buffer::put;
-use verifier::Answer;
 use verifier::verify::verify;
 use waiting::BLOCK_WORDS;
 

@@ -4,10 +4,10 @@ mod exported;
 
 ghost use lib.ListN.{length};
 ghost use Rattle.probewarden.specs.EndToEnd.{EndToEnd};
+use analysis::Answer;
 use analysis::Finding;
 use interpreter::interpret;
 use machine::outcome::Outcome;
-use verifier::Answer;
 use verifier::verify::verify;
 
 // A program that is not accepted is not run.

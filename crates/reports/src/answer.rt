@@ -1,13 +1,14 @@
-// What the verifier answers: in a line, and as an exit status.
+// What the verifier answers: in a line, as an exit status, and both said.
 ghost use Prim.Native.Nat.{_≤_};
 ghost use lib.ListN.{length};
+use analysis::Answer;
 use analysis::Finding;
 use analysis::Reason;
 use reasons::put_sentence;
 use reasons::reason_number;
+use terminal::ending::finish;
 use text::page::write_letter;
 use text::page::write_number;
-use verifier::Answer;
 
 fn write_sentence(out: &mut [u8], at: usize, reason: Reason) -> usize
     requires { ⌜ at ≤ length (now out) ⌝ }
@@ -68,4 +69,9 @@ pub fn status_of(answer: Answer) -> u8 {
         }
         Answer::ScratchTooSmall { words: _ } => b'2',
     }
+}
+
+pub fn conclude(answer: Answer, program: &[u8], out: &mut [u8]) {
+    let n = answer_line(answer, (program.len() / 8) as u64, out);
+    finish(out, n, status_of(answer));
 }

@@ -1,3 +1,2 @@
-// What the verifier answers: a line, an exit status, and both said.
+// What the verifier answers, for people.
 pub mod answer;
-pub mod said;

@@ -15,8 +15,8 @@ use Rattle.analysis.specs.declared.Finding.the-variants.{Accepted, Refused}
 use Rattle.analysis.specs.declared.Judged.{Judged}
 use Rattle.analysis.specs.Judged.{formed, onPaths, onForm, judged}
 use Rattle.analysis.specs.Paths.{connected}
-use Rattle.verifier.specs.declared.Answer.{Answer}
-use Rattle.verifier.specs.declared.Answer.the-variants.{Judgement, ScratchTooSmall}
+use Rattle.analysis.specs.declared.Answer.{Answer}
+use Rattle.analysis.specs.declared.Answer.the-variants.{Judgement, ScratchTooSmall}
 use Rattle.waiting.specs.Layout.{words, blockWords}
 use Rattle.verifier.specs.Sending.{Followed}
 use Rattle.verifier.specs.Answered.{isAccepted, passesForm, answered, Answers}

@@ -15,8 +15,8 @@ use Rattle.analysis.specs.Paths.{connected}
 use Rattle.analysis.specs.Judged.{formed, judged}
 use Rattle.analysis.proofs.FormLaws.{orderly-passes}
 use Rattle.analysis.proofs.Paths.{connected-iff, passes-has-form}
-use Rattle.verifier.specs.declared.Answer.{Answer}
-use Rattle.verifier.specs.declared.Answer.the-variants.{Judgement, ScratchTooSmall}
+use Rattle.analysis.specs.declared.Answer.{Answer}
+use Rattle.analysis.specs.declared.Answer.the-variants.{Judgement, ScratchTooSmall}
 use Rattle.waiting.specs.Layout.{words}
 use Rattle.verifier.specs.Answered.{isAccepted, passesForm, answered}
 

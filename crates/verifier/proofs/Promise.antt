@@ -10,8 +10,8 @@ use Rattle.analysis.specs.Judged.{judged}
 use Rattle.analysis.proofs.Theorem.{accepted-safe}
 use Rattle.analysis.proofs.Whole.{judged-whole}
 use Rattle.analysis.proofs.Work.{work-linear}
-use Rattle.verifier.specs.declared.Answer.{Answer}
-use Rattle.verifier.specs.declared.Answer.the-variants.{Judgement, ScratchTooSmall}
+use Rattle.analysis.specs.declared.Answer.{Answer}
+use Rattle.analysis.specs.declared.Answer.the-variants.{Judgement, ScratchTooSmall}
 use Rattle.waiting.specs.Layout.{words}
 use Rattle.verifier.specs.Answered.{passesForm, answered, Promises}
 

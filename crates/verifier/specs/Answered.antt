@@ -13,8 +13,8 @@ use Rattle.analysis.specs.Paths.{connected}
 use Rattle.analysis.specs.Judged.{formed, followed, judged}
 use Rattle.analysis.specs.Promise.{Whole}
 use Rattle.analysis.specs.Safe.{Safe}
-use Rattle.verifier.specs.declared.Answer.{Answer}
-use Rattle.verifier.specs.declared.Answer.the-variants.{Judgement, ScratchTooSmall}
+use Rattle.analysis.specs.declared.Answer.{Answer}
+use Rattle.analysis.specs.declared.Answer.the-variants.{Judgement, ScratchTooSmall}
 use Rattle.waiting.specs.Layout.{words}
 use Rattle.waiting.specs.Store.{waitingIn}
 

@@ -9,13 +9,7 @@ mod send;
 pub mod verify;
 mod ways;
 
-use analysis::Judged;
 use analysis::Reason;
-
-pub enum Answer {
-    Judgement(Judged),
-    ScratchTooSmall { words: u64 },
-}
 
 // How a step of the pass ends, and how much has been done then.
 pub enum Step {

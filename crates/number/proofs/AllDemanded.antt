@@ -1,0 +1,103 @@
+-- Everything that is demanded of Numbers holds.
+use mathlib.Core.Path.{_≡_, refl}
+use mathlib.Core.Bool.{Bool, true}
+use mathlib.Core.Logic.{_↔_}
+use Prim.Native.Nat.{ℕ, _+_, _^_, _≤_, _<_}
+use borrow.Author.Tests.{leb-true, le-leb}
+use Rattle.word.specs.declared.Comparison.{Comparison}
+use Rattle.known_bits.specs.KnownBits.{Well}
+use Rattle.known_bits.proofs.Computing.{calculated-computed}
+use Rattle.number.specs.declared.Range.{Range}
+use Rattle.number.specs.declared.Number.{Number}
+use Rattle.number.specs.Sharpen.{just, exact, everything, loaded}
+use Rattle.number.specs.Computed.{fits}
+use Rattle.number.specs.Demanded.{OfOperations, LeastRanges, OfMemory, OfJoins, OfJumps, OfLowHalves, OfJset, Demanded}
+use Rattle.number.proofs.AgainstKnown.{excluded-if-none-goes, refined-tightest, set-not-taken-clears, refined-exact-excluded}
+use Rattle.number.proofs.Compare.{refined-sound, refined-narrower}
+use Rattle.number.proofs.Computing.{computed-sound, computed-exact, computed-bits-within, computed-range-within}
+use Rattle.number.proofs.Exclusion.{excluded-by-ranges, excluded-by-bits}
+use Rattle.number.proofs.Halves.{refined32-sound, refined32-narrower, refined32-upper, refined32-exact-excluded}
+use Rattle.number.proofs.HalvesAgainstKnown.{excluded32-if-none-goes, refined32-tightest}
+use Rattle.number.proofs.HalvesWithin.{refined32-low-bits, excluded32-by-bits, set32-not-taken-clears}
+use Rattle.number.proofs.Known.{joined-covers-left, joined-covers-right, joined-range-is, joined-bits-best}
+use Rattle.number.proofs.Shorter.{computed-rest-below-the-divisor, computed-and-at-most-the-first, computed-and-at-most-the-second}
+use Rattle.number.proofs.SumLaws.{sum-within, difference-within, sum-ends, difference-ends}
+use Rattle.number.proofs.Tightness.{product-range-tightest, quotient-range-tightest, left-range-tightest, right-range-tightest}
+
+operations : OfOperations
+operations =
+    record {
+      sound = computed-sound;
+      exact-of-exact = computed-exact;
+      bits-within = computed-bits-within;
+      bits-best = λ w h op a b. calculated-computed w h op (a .bits) (b .bits);
+      sum-within = sum-within;
+      difference-within = difference-within;
+      range-within = computed-range-within;
+      sum-ends = sum-ends;
+      difference-ends = difference-ends;
+      rest-below-the-divisor = computed-rest-below-the-divisor;
+      and-at-most-the-first = computed-and-at-most-the-first;
+      and-at-most-the-second = computed-and-at-most-the-second;
+    }
+
+least-ranges : (a b : Range) → a .lo ≤ a .hi → b .lo ≤ b .hi → LeastRanges a b
+least-ranges a b na nb =
+    record {
+      product = product-range-tightest a b na nb;
+      quotient = quotient-range-tightest a b na nb;
+      left = left-range-tightest a b na nb;
+      right = right-range-tightest a b na nb;
+    }
+
+-- an access fits if and only if its last byte at the highest offset lies below the limit
+pub fits-exactly : (n : Number) (size l : ℕ) → (fits n size l ≡ true) ↔ (n .range .hi + size ≤ l)
+unfolding fits
+fits-exactly n size l = (leb-true (n .range .hi + size) l, le-leb (n .range .hi + size) l)
+
+memory : OfMemory
+unfolding loaded everything exact just
+memory = record { loaded-range = λ k. refl; exact-range = λ n. refl; fits-exactly = fits-exactly }
+
+joins : (a b : Number) → OfJoins a b
+joins a b = record { covers-left = joined-covers-left a b; covers-right = joined-covers-right a b; range = joined-range-is a b; bits = joined-bits-best a b }
+
+jumps : (c : Comparison) (way : Bool) → OfJumps c way
+jumps c way =
+    record {
+      sound = refined-sound c way;
+      narrower = refined-narrower c way;
+      tightest = refined-tightest c way;
+      excluded-if-none-goes = excluded-if-none-goes c way;
+      excluded-by-ranges = λ n d s. excluded-by-ranges c way d s n;
+      excluded-by-bits = λ n d s. excluded-by-bits c way d s n;
+      exact-excluded = refined-exact-excluded c way;
+    }
+
+low-halves : (c : Comparison) (way : Bool) → OfLowHalves c way
+low-halves c way =
+    record {
+      sound = refined32-sound c way;
+      narrower = refined32-narrower c way;
+      upper = refined32-upper c way;
+      low-bits = refined32-low-bits c way;
+      tightest = refined32-tightest c way;
+      excluded-if-none-goes = excluded32-if-none-goes c way;
+      excluded-by-bits = excluded32-by-bits c way;
+      exact-excluded = refined32-exact-excluded c way;
+    }
+
+jset : (d : Number) (k : ℕ) → Well 64 (d .bits) → k < 2 ^ 64 → OfJset d k
+jset d k g h = record { clears = set-not-taken-clears d k g h; clears32 = set32-not-taken-clears d k g h }
+
+pub all-demanded : Demanded
+all-demanded =
+    record {
+      operations = operations;
+      least-ranges = least-ranges;
+      memory = memory;
+      joins = joins;
+      jumps = jumps;
+      low-halves = low-halves;
+      jset = jset;
+    }
