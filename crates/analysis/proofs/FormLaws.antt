@@ -18,28 +18,9 @@ use Rattle.analysis.specs.declared.Reason.{Reason}
 use Rattle.analysis.specs.declared.Reason.the-variants.{BadLength, LongRecord, NoCode, WritesR10, JumpsBack, JumpsOut, ReadsUnset, Outside, LeaksAddress, DeadCode}
 use Rattle.analysis.specs.declared.Finding.{Finding}
 use Rattle.analysis.specs.declared.Finding.the-variants.{Accepted, Refused}
-use Rattle.analysis.specs.Form.{instruction, offOf, goesBack, goesOut, mayBeLast, failing, Fine, Orderly}
+use Rattle.analysis.specs.Form.{instruction, offOf, goesBack, goesOut, mayBeLast, failing, Fine, Orderly, Fails, FailsFirst, FirstFailure}
 use Rattle.analysis.specs.Judged.{reasonNumber, orElse, formed}
 use Rattle.analysis.proofs.Annotated.{refused-not-accepted}
-
--- ---- what a reason says of an index, in the words of docs/VERIFIER.md
-
-abbrev pub Fails : Reason → ℕ → ℕ → Instruction → Type 0
-Fails BadLength n i ins = ⊥
-Fails LongRecord n i ins = ⊥
-Fails NoCode n i ins = isNoInstruction ins ≡ true
-Fails WritesR10 n i ins = names10 (writes ins) ≡ true
-Fails JumpsBack n i ins = goesBack (offOf ins) ≡ true
-Fails JumpsOut n i ins = (goesOut n i (offOf ins) ≡ true) ⊎ ((i + 1 ≡ n) × (mayBeLast ins ≡ false))
-Fails ReadsUnset n i ins = ⊥
-Fails Outside n i ins = ⊥
-Fails LeaksAddress n i ins = ⊥
-Fails DeadCode n i ins = ⊥
-
--- it fails there with this reason and with no lower one
-pub record FailsFirst (reason : Reason) (n i : ℕ) (ins : Instruction) : Type 0 where
-  pub fails : Fails reason n i ins
-  pub no-lower : (r : Reason) → reasonNumber r < reasonNumber reason → Fails r n i ins → ⊥
 
 abbrev IsSome : Option Reason → Type 0
 IsSome none = ⊥
@@ -208,10 +189,10 @@ all-accepted program (suc k) i h =
     (all-accepted program k (i + 1) (λ x l m. h x (omega arith) (omega arith)))
 
 -- a refusal names the lowest index that fails
-pub record Refusal (program : List ℕ) (reason : Reason) (from place : ℕ) : Type 0 where
-  pub inside : (from ≤ place) × (place < length program / 8)
-  pub fails-first : FailsFirst reason (length program / 8) place (instruction program place)
-  pub fine-before : (x : ℕ) → from ≤ x → x < place → InForm program x
+record Refusal (program : List ℕ) (reason : Reason) (from place : ℕ) : Type 0 where
+  inside : (from ≤ place) × (place < length program / 8)
+  fails-first : FailsFirst reason (length program / 8) place (instruction program place)
+  fine-before : (x : ℕ) → from ≤ x → x < place → InForm program x
 
 refused-first : (program : List ℕ) (k i : ℕ) → i + k ≡ length program / 8 → (reason : Reason) (place : ℕ) → formed program k i ≡ Refused reason place
     → Refusal program reason i place
@@ -251,5 +232,48 @@ module _ (program : List ℕ) (R : ℕ) where
   pub orderly-passes : Orderly program R → formed program (length program / 8) 0 ≡ Accepted
   orderly-passes h = all-accepted program (length program / 8) 0 (λ x l m. h .fine x (omega arith))
 
-pub form-refusal : (program : List ℕ) (reason : Reason) (place : ℕ) → formed program (length program / 8) 0 ≡ Refused reason place → Refusal program reason 0 place
-form-refusal program reason place e = refused-first program (length program / 8) 0 (omega arith) reason place e
+pub form-refusal : (program : List ℕ) (reason : Reason) (place : ℕ) → formed program (length program / 8) 0 ≡ Refused reason place → FirstFailure program reason place
+form-refusal program reason place e =
+    let r = refused-first program (length program / 8) 0 (omega arith) reason place e in
+    record { inside = r .inside .1; fails-first = r .fails-first; fine-before = λ x l. r .fine-before x (omega arith) l }
+
+-- ---- and the lowest index that fails is refused
+is-false : (b : Bool) → (b ≡ true → ⊥) → b ≡ false
+is-false true n = absurd (n refl)
+is-false false n = refl
+
+out-is-tested : (n i : ℕ) (ins : Instruction) → Fails JumpsOut n i ins → (goesOut n i (offOf ins) || (eqb (i + 1) n && not (mayBeLast ins))) ≡ true
+out-is-tested n i ins (inl e) = rw e refl
+out-is-tested n i ins (inr e) = rw (eq-eqb (i + 1) n (e .0), e .1) (or-true (goesOut n i (offOf ins)))
+  where
+    or-true : (b : Bool) → (b || true) ≡ true
+    or-true true = refl
+    or-true false = refl
+
+first-failing : (reason : Reason) (n i : ℕ) (ins : Instruction) → FailsFirst reason n i ins → failing n i ins ≡ some reason
+unfolding failing reasonNumber
+first-failing BadLength n i ins f = absurd (f .fails)
+first-failing LongRecord n i ins f = absurd (f .fails)
+first-failing NoCode n i ins f = rw (f .fails) refl
+first-failing WritesR10 n i ins f = rw (is-false _ (f .no-lower NoCode (omega arith)), f .fails) refl
+first-failing JumpsBack n i ins f = rw (is-false _ (f .no-lower NoCode (omega arith)), is-false _ (f .no-lower WritesR10 (omega arith)), f .fails) refl
+first-failing JumpsOut n i ins f =
+    rw (is-false _ (f .no-lower NoCode (omega arith)), is-false _ (f .no-lower WritesR10 (omega arith)), is-false _ (f .no-lower JumpsBack (omega arith)), out-is-tested n i ins (f .fails)) refl
+first-failing ReadsUnset n i ins f = absurd (f .fails)
+first-failing Outside n i ins f = absurd (f .fails)
+first-failing LeaksAddress n i ins f = absurd (f .fails)
+first-failing DeadCode n i ins f = absurd (f .fails)
+
+first-refused : (program : List ℕ) (k i : ℕ) → i + k ≡ length program / 8 → (reason : Reason) (place : ℕ) → i ≤ place → FirstFailure program reason place
+    → formed program k i ≡ Refused reason place
+unfolding formed orElse
+first-refused program zero i m reason place l f = absurd (omega (arith, f .inside))
+first-refused program (suc k) i m reason place l f =
+    ⊎-elim
+    (λ (s : i ≡ place). rw (s, first-failing reason (length program / 8) place (instruction program place) (f .fails-first)) refl)
+    (λ (s : i < place). rw (fine-passing (length program / 8) i (instruction program i) (f .fine-before i s)) (first-refused program k (i + 1) (omega arith) reason place (omega arith) f))
+    (eq-or-lt-of-le l)
+
+pub failure-is-refused : (program : List ℕ) (reason : Reason) (place : ℕ) → FirstFailure program reason place
+    → formed program (length program / 8) 0 ≡ Refused reason place
+failure-is-refused program reason place f = first-refused program (length program / 8) 0 (omega arith) reason place (omega arith) f

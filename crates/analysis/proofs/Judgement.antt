@@ -13,12 +13,12 @@ use Rattle.analysis.specs.declared.Reason.the-variants.{BadLength, LongR
 use Rattle.analysis.specs.declared.Finding.{Finding}
 use Rattle.analysis.specs.declared.Finding.the-variants.{Accepted, Refused}
 use Rattle.analysis.specs.declared.Judged.{Judged}
-use Rattle.analysis.specs.Form.{instruction, Orderly, Reached, HasForm}
+use Rattle.analysis.specs.Form.{instruction, Orderly, Reached, HasForm, Fails, FirstFailure, Dead}
 use Rattle.analysis.specs.Paths.{connected}
 use Rattle.analysis.specs.Judged.{reasonNumber, onValues, Walk, formed, followed, onPaths, onForm, judged}
 use Rattle.analysis.proofs.Annotated.{refused-not-accepted}
-use Rattle.analysis.proofs.FormLaws.{Fails, Refusal, refused-injective, passes-orderly, orderly-passes, form-refusal}
-use Rattle.analysis.proofs.Paths.{Dead, connected-iff, unconnected-dead, dead-unconnected, passes-has-form}
+use Rattle.analysis.proofs.FormLaws.{refused-injective, passes-orderly, orderly-passes, form-refusal, failure-is-refused}
+use Rattle.analysis.proofs.Paths.{connected-iff, unconnected-dead, dead-unconnected, passes-has-form}
 use Rattle.analysis.proofs.Refusing.{RefusedAt, followed-refused, followed-for-values}
 
 -- how an answer comes about
@@ -142,7 +142,7 @@ module _ (program : List ℕ) (R : ℕ) where
 
   abbrev Placed : Judged → Type 0
   Placed j = (reason : Reason) (place : ℕ) → j .finding ≡ Refused reason place → 3 ≤ reasonNumber reason
-      → ((reasonNumber reason ≤ 6) × Refusal program reason 0 place) ⊎ (((reason ≡ DeadCode) × Orderly program R × Dead program place)
+      → ((reasonNumber reason ≤ 6) × FirstFailure program reason place) ⊎ (((reason ≡ DeadCode) × Orderly program R × Dead program place)
       ⊎ ((onValues reason ≡ true) × HasForm program R × RefusedAt program R (followed program R) reason place))
 
   placed : (j : Judged) → Cause program R j → Placed j
@@ -159,6 +159,25 @@ module _ (program : List ℕ) (R : ℕ) where
   pub answers-place : Placed (judged program R)
   answers-place = placed (judged program R) (judged-cause program R)
 
+  -- the reasons 3 to 6 are answered for the lowest index that fails a test, with the lowest reason there, and for nothing else
+  abbrev Tested : Judged → Type 0
+  Tested j = (reason : Reason) (place : ℕ) → reasonNumber reason ≤ 6 → 3 ≤ reasonNumber reason → j .finding ≡ Refused reason place
+      → (badProgram (length program) ≡ false) × (badRecord R ≡ false) × FirstFailure program reason place
+
+  tested : (j : Judged) → Cause program R j → Tested j
+  unfolding reasonNumber
+  tested j (length-bad p) reason place h l e = absurd (omega (arith, ap number e, l))
+  tested j (record-long p q) reason place h l e = absurd (omega (arith, ap number e, l))
+  tested j (form-fails p q s x work f) reason place h l e = (p, q, form-refusal program reason place (f ∙ e))
+  tested j (code-dead o x work d) reason place h l e = absurd (omega (arith, ap number e, h))
+  tested j (values-tell form) reason place h l e = absurd (omega (arith, values-reason reason (followed-for-values program R form reason place e), h))
+
+  pub answers-tests : (reason : Reason) (place : ℕ) → reasonNumber reason ≤ 6 → 3 ≤ reasonNumber reason
+      → (judged program R .finding ≡ Refused reason place) ↔ ((badProgram (length program) ≡ false) × (badRecord R ≡ false) × FirstFailure program reason place)
+  unfolding judged onForm
+  answers-tests reason place h l =
+      (tested (judged program R) (judged-cause program R) reason place h l, λ f. rw (f .0, f .1, failure-is-refused program reason place (f .2)) refl)
+
   -- reason 12 is answered for dead code, at its lowest index, and for nothing else
   pub answers-12 : (place : ℕ) → (judged program R .finding ≡ Refused DeadCode place) ↔ (Orderly program R × Dead program place)
   unfolding judged onForm onPaths reasonNumber onValues
@@ -167,7 +186,7 @@ module _ (program : List ℕ) (R : ℕ) where
     λ h. rw (h .0 .good-length, h .0 .good-record, orderly-passes program R (h .0), dead-unconnected program place (h .1)) refl,
   )
     where
-      go : ((12 ≤ 6) × Refusal program DeadCode 0 place) ⊎ (((DeadCode ≡ DeadCode) × Orderly program R × Dead program place)
+      go : ((12 ≤ 6) × FirstFailure program DeadCode place) ⊎ (((DeadCode ≡ DeadCode) × Orderly program R × Dead program place)
           ⊎ ((false ≡ true) × HasForm program R × RefusedAt program R (followed program R) DeadCode place)) → Orderly program R × Dead program place
       go (inl h) = absurd (omega (arith, h .0))
       go (inr (inl h)) = (h .1, h .2)

@@ -2,13 +2,14 @@ pub mod Annotated
 pub mod ExactEffects
 pub mod FormLaws
 pub mod Judgement
-pub mod Literal
 pub mod LayoutFree
 pub mod Meaning
 pub mod Paths
 pub mod Programs
+pub mod Promised
 pub mod Refusing
 pub mod Running
+pub mod Sentences
 pub mod Simulation
 pub mod Sound
 pub mod Stable
@@ -17,7 +18,6 @@ pub mod Tests
 pub mod Theorem
 pub mod Told
 pub mod Unsafe
-pub mod Useful
 pub mod Vectors
 pub mod WithoutLoads
 pub mod Work

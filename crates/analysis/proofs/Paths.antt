@@ -15,16 +15,10 @@ use Rattle.analysis.specs.declared.Reason.{Reason}
 use Rattle.analysis.specs.declared.Reason.the-variants.{DeadCode}
 use Rattle.analysis.specs.declared.Finding.{Finding}
 use Rattle.analysis.specs.declared.Finding.the-variants.{Accepted, Refused}
-use Rattle.analysis.specs.Form.{instruction, offOf, goesOn, Reached, at-the-start, by-going-on, by-a-jump, HasForm}
+use Rattle.analysis.specs.Form.{instruction, offOf, goesOn, Reached, at-the-start, by-going-on, by-a-jump, HasForm, Dead}
 use Rattle.analysis.specs.Paths.{Targets, noTarget, aimed, reaching, connected}
 use Rattle.analysis.specs.Judged.{formed}
 use Rattle.analysis.proofs.FormLaws.{passes-orderly}
-
--- the lowest instruction that no path leads to
-pub record Dead (program : List ℕ) (place : ℕ) : Type 0 where
-  pub inside : place < length program / 8
-  pub unreached : Reached program place → ⊥
-  pub lowest : (x : ℕ) → x < place → Reached program x
 
 -- ---- the targets
 

@@ -83,4 +83,4 @@ work-linear program R = go (badProgram (length program)) (badRecord R) (formed p
     go true b f e = omega arith
     go false true f e = omega arith
     go false false Accepted e = paths-work program R (connected program) refl
-    go false false (Refused reason place) e = omega (arith, form-refusal program reason place e .inside .1)
+    go false false (Refused reason place) e = omega (arith, form-refusal program reason place e .inside)

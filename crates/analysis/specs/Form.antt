@@ -13,7 +13,21 @@ use Rattle.machine.specs.declared.instruction.Instruction.the-variants.{Alu, Ne
 use Rattle.machine.specs.Instruction.{decode, writes}
 use Rattle.machine.specs.Machine.{isNoInstruction, names10, badProgram, badRecord}
 use Rattle.analysis.specs.declared.Reason.{Reason}
-use Rattle.analysis.specs.declared.Reason.the-variants.{NoCode, WritesR10, JumpsBack, JumpsOut}
+use Rattle.analysis.specs.declared.Reason.the-variants.{BadLength, LongRecord, NoCode, WritesR10, JumpsBack, JumpsOut, ReadsUnset, Outside, LeaksAddress, DeadCode}
+
+-- ---- a reason's number
+
+unfoldable pub reasonNumber : Reason → ℕ
+reasonNumber BadLength = 1
+reasonNumber LongRecord = 2
+reasonNumber NoCode = 3
+reasonNumber WritesR10 = 4
+reasonNumber JumpsBack = 5
+reasonNumber JumpsOut = 6
+reasonNumber ReadsUnset = 7
+reasonNumber Outside = 8
+reasonNumber LeaksAddress = 9
+reasonNumber DeadCode = 12
 
 unfoldable pub instruction : List ℕ → ℕ → Instruction
 instruction program i = decode program (i * 8)
@@ -86,3 +100,35 @@ pub data Reached (program : List ℕ) : ℕ → Type 0 where
 pub record HasForm (program : List ℕ) (R : ℕ) : Type 0 where
   pub orderly : Orderly program R
   pub all-reached : (i : ℕ) → i < length program / 8 → Reached program i
+
+-- ---- what a refusal for form says
+
+-- a reason at an index, in the words of docs/VERIFIER.md
+abbrev pub Fails : Reason → ℕ → ℕ → Instruction → Type 0
+Fails BadLength n i ins = ⊥
+Fails LongRecord n i ins = ⊥
+Fails NoCode n i ins = isNoInstruction ins ≡ true
+Fails WritesR10 n i ins = names10 (writes ins) ≡ true
+Fails JumpsBack n i ins = goesBack (offOf ins) ≡ true
+Fails JumpsOut n i ins = (goesOut n i (offOf ins) ≡ true) ⊎ ((i + 1 ≡ n) × (mayBeLast ins ≡ false))
+Fails ReadsUnset n i ins = ⊥
+Fails Outside n i ins = ⊥
+Fails LeaksAddress n i ins = ⊥
+Fails DeadCode n i ins = ⊥
+
+-- it fails there with this reason and with no lower one
+pub record FailsFirst (reason : Reason) (n i : ℕ) (ins : Instruction) : Type 0 where
+  pub fails : Fails reason n i ins
+  pub no-lower : (r : Reason) → reasonNumber r < reasonNumber reason → Fails r n i ins → ⊥
+
+-- the lowest index that fails, with the lowest reason there
+pub record FirstFailure (program : List ℕ) (reason : Reason) (place : ℕ) : Type 0 where
+  pub inside : place < length program / 8
+  pub fails-first : FailsFirst reason (length program / 8) place (instruction program place)
+  pub fine-before : (x : ℕ) → x < place → Fine (length program / 8) x (instruction program x)
+
+-- the lowest index that no path leads to
+pub record Dead (program : List ℕ) (place : ℕ) : Type 0 where
+  pub inside : place < length program / 8
+  pub unreached : Reached program place → ⊥
+  pub lowest : (x : ℕ) → x < place → Reached program x

@@ -23,22 +23,11 @@ use Rattle.analysis.specs.declared.Effect.{Effect}
 use Rattle.analysis.specs.declared.Effect.the-variants.{Refuse, Put, Keep, Fork, Goto, Stop}
 use Rattle.analysis.specs.Values.{Facts, startFacts, meeting}
 use Rattle.analysis.specs.Effects.{effect}
+unfoldable pub use Rattle.analysis.specs.Form.{reasonNumber}
 use Rattle.analysis.specs.Form.{instruction, failing}
 use Rattle.analysis.specs.Paths.{connected}
 
--- ---- a reason's number
-
-unfoldable pub reasonNumber : Reason → ℕ
-reasonNumber BadLength = 1
-reasonNumber LongRecord = 2
-reasonNumber NoCode = 3
-reasonNumber WritesR10 = 4
-reasonNumber JumpsBack = 5
-reasonNumber JumpsOut = 6
-reasonNumber ReadsUnset = 7
-reasonNumber Outside = 8
-reasonNumber LeaksAddress = 9
-reasonNumber DeadCode = 12
+-- ---- reasons
 
 -- a refusal is for the program's values, or for its form
 unfoldable pub onValues : Reason → Bool

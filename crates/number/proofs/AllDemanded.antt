@@ -7,6 +7,7 @@ use borrow.Author.Tests.{leb-true, le-leb}
 use Rattle.word.specs.declared.Comparison.{Comparison}
 use Rattle.known_bits.specs.KnownBits.{Well}
 use Rattle.known_bits.proofs.Computing.{calculated-computed}
+use Rattle.known_bits.proofs.ProductsWithin.{product-within-shift-and-add, product-of-multiples}
 use Rattle.number.specs.declared.Range.{Range}
 use Rattle.number.specs.declared.Number.{Number}
 use Rattle.number.specs.Sharpen.{just, exact, everything, loaded}
@@ -31,6 +32,8 @@ operations =
       exact-of-exact = computed-exact;
       bits-within = computed-bits-within;
       bits-best = λ w h op a b. calculated-computed w h op (a .bits) (b .bits);
+      product-bits = λ w h a b ga gb. (λ z m. product-within-shift-and-add w h a b ga gb z m .0, λ z m. product-within-shift-and-add w h a b ga gb z m .1);
+      product-of-multiples = λ w h a b ga gb i j p q z m. product-of-multiples w h a b ga gb z m i j p q;
       sum-within = sum-within;
       difference-within = difference-within;
       range-within = computed-range-within;

@@ -9,3 +9,5 @@ pub use Rattle.number.proofs.Compare.{refined-sound, refined-narrower}
 pub use Rattle.number.proofs.AgainstKnown.{refined-exact, refined-exact-excluded}
 -- the same of a comparison of low halves
 pub use Rattle.number.proofs.Halves.{refined32-sound, refined32-narrower, refined32-exact, refined32-exact-excluded}
+-- everything that is demanded
+pub use Rattle.number.proofs.AllDemanded.{all-demanded}

@@ -10,9 +10,10 @@ use Rattle.word.specs.declared.Operation.{Operation}
 use Rattle.word.specs.declared.Operation.the-variants.{Add, Sub, Mul, Div, Lsh, Rsh, Mod, And}
 use Rattle.word.specs.declared.Comparison.{Comparison}
 use Rattle.word.specs.declared.Comparison.the-variants.{Eq, Ne, Gt, Ge, Lt, Le, Set}
+use Rattle.known_bits.specs.declared.Bits.{Bits}
 use Rattle.known_bits.specs.KnownBits.{Well, Mem, Best, Either}
 use Rattle.known_bits.specs.Computed.{Computed}
-use Rattle.known_bits.specs.Formula.{calculated}
+use Rattle.known_bits.specs.Formula.{low, shiftAndAdd, calculated}
 use Rattle.number.specs.declared.Range.{Range}
 use Rattle.number.specs.declared.Number.{Number}
 use Rattle.number.specs.declared.Refined.{Refined}
@@ -76,6 +77,11 @@ pub record OfOperations : Type 0 where
   -- the known bits: within those of `known_bits`, which are the best where that is demanded
   pub bits-within : (w : ℕ) (op : Operation) (a b : Number) → BitsWithin (computed w op a b .bits) (calculated w op (a .bits) (b .bits))
   pub bits-best : (w : ℕ) → Wide w → (op : Operation) (a b : Number) → Computed w op (a .bits) (b .bits) (calculated w op (a .bits) (b .bits))
+  -- a product knows no less than shift and add over the digits of either operand, and that multiples give a multiple
+  pub product-bits : (w : ℕ) → Wide w → (a b : Bits) → Well 64 a → Well 64 b
+      → BitsWithin (calculated w Mul a b) (shiftAndAdd w (low w a) (low w b)) × BitsWithin (calculated w Mul a b) (shiftAndAdd w (low w b) (low w a))
+  pub product-of-multiples : (w : ℕ) → Wide w → (a b : Bits) → Well 64 a → Well 64 b → (i j : ℕ)
+      → ((x : ℕ) → Mem 64 a x → x % 2 ^ i ≡ 0) → ((y : ℕ) → Mem 64 b y → y % 2 ^ j ≡ 0) → (z : ℕ) → Mem 64 (calculated w Mul a b) z → z % 2 ^ (i + j) ≡ 0
   -- the range of a sum and of a difference that cannot wrap: the exact sum and difference of the ends
   pub sum-within : (w : ℕ) → Wide w → (a b : Number) (x y : ℕ) → In a x → In b y → a .range .hi + b .range .hi < 2 ^ w
       → RangeWithin (computed w Add a b .range) (record { lo = a .range .lo + b .range .lo; hi = a .range .hi + b .range .hi })

@@ -1,0 +1,235 @@
+-- What one instruction and one way out tell is what the sentences of `Promise` say: a definition that forgets more makes one of them false.
+use mathlib.Core.Path.{_≡_, refl, sym, ap, _∙_, subst}
+use mathlib.Core.Bool.{Bool, true, false, cond}
+use mathlib.Core.List.{List, [], _∷_}
+use mathlib.Core.Option.{Option, none, some}
+use Prim.Native.Nat.{ℕ, zero, suc, _+_, _≤_, _<_}
+use native.Mathlib.Omega.{arith}
+use lib.ListN.{length, set, getD, length-set}
+use lib.Seq.{getD-set-same, getD-set-other}
+use lib.Dec.{eqb}
+use borrow.Author.Tests.{le-leb, lt-leb}
+use Rattle.word.specs.declared.Operation.{Operation}
+use Rattle.word.specs.declared.Operation.the-variants.{Add, Sub, Mul, Div, Or, And, Lsh, Rsh, Mod, Xor, Mov, Arsh}
+use Rattle.word.specs.declared.Operation.the-variants as operation
+use Rattle.machine.specs.declared.instruction.Width.{Width}
+use Rattle.machine.specs.declared.instruction.Width.the-variants.{Long, Short}
+use Rattle.machine.specs.declared.instruction.Operand.{Operand}
+use Rattle.machine.specs.declared.instruction.Operand.the-variants.{Immediate, Register}
+use Rattle.machine.specs.declared.instruction.Size.{Size}
+use Rattle.machine.specs.declared.instruction.Instruction.the-variants.{Alu}
+use Rattle.machine.specs.Machine.{bits, bytes}
+use Rattle.number.specs.declared.Number.{Number}
+use Rattle.number.specs.declared.Refined.{Refined}
+use Rattle.number.specs.declared.Refined.the-variants.{Excluded, Possible}
+use Rattle.number.specs.Sharpen.{exact, joinedNumber}
+use Rattle.number.specs.Computed.{computed, fits}
+use Rattle.number.proofs.Laws.{all-demanded}
+use Rattle.analysis.specs.declared.Region.{Region}
+use Rattle.analysis.specs.declared.Region.the-variants.{Record, Stack}
+use Rattle.analysis.specs.declared.Gone.the-variants.{Never}
+use Rattle.analysis.specs.declared.Value.{Value}
+use Rattle.analysis.specs.declared.Value.the-variants.{Unusable, Plain, Address}
+use Rattle.analysis.specs.declared.Effect.{Effect}
+use Rattle.analysis.specs.declared.Effect.the-variants.{Refuse, Put, Keep, Fork, Goto, Stop}
+use Rattle.analysis.specs.Values.{Facts, valueOf, operandOf, startFacts, sameRegion, joinedGone, joinedValue, joinedValues, joinedFacts}
+use Rattle.analysis.specs.Effects.{isNever, isMixed, reading, readingBoth, put, role, calculate, sum, difference, arithmetic, limit, load, storeAt, store, told, fork, exit, effect}
+use Rattle.analysis.specs.Form.{instruction}
+use Rattle.analysis.specs.Judged.{having, withOperand, along, apply}
+use Rattle.analysis.specs.Promise.{together, flowing, flow, knownFrom, known, WayOut, OfArithmetic, OfMemory, OfWays, OfRegisters, Sentences}
+
+-- ---- arithmetic
+calculation-told : (R i : ℕ) (a : Facts) (d : ℕ) (s : Operand) → eqb d 10 ≡ false → (w : Width) (op : Operation) (x y : Number) → ¬ (op ≡ Mov)
+    → valueOf a d ≡ Plain x → operandOf a s ≡ Plain y → effect R i a (Alu w op d s) ≡ Put d (Plain (computed (bits w) op x y))
+unfolding effect arithmetic role readingBoth isNever isMixed calculate sum difference put bits
+calculation-told R i a d s keeps Long Add x y n p q = rw (p, q, keeps) refl
+calculation-told R i a d s keeps Long Sub x y n p q = rw (p, q, keeps) refl
+calculation-told R i a d s keeps Long Mul x y n p q = rw (p, q, keeps) refl
+calculation-told R i a d s keeps Long Div x y n p q = rw (p, q, keeps) refl
+calculation-told R i a d s keeps Long Or x y n p q = rw (p, q, keeps) refl
+calculation-told R i a d s keeps Long And x y n p q = rw (p, q, keeps) refl
+calculation-told R i a d s keeps Long Lsh x y n p q = rw (p, q, keeps) refl
+calculation-told R i a d s keeps Long Rsh x y n p q = rw (p, q, keeps) refl
+calculation-told R i a d s keeps Long operation.Neg x y n p q = rw (p, q, keeps) refl
+calculation-told R i a d s keeps Long Mod x y n p q = rw (p, q, keeps) refl
+calculation-told R i a d s keeps Long Xor x y n p q = rw (p, q, keeps) refl
+calculation-told R i a d s keeps Long Mov x y n p q = absurd (n refl)
+calculation-told R i a d s keeps Long Arsh x y n p q = rw (p, q, keeps) refl
+calculation-told R i a d s keeps Short Add x y n p q = rw (p, q, keeps) refl
+calculation-told R i a d s keeps Short Sub x y n p q = rw (p, q, keeps) refl
+calculation-told R i a d s keeps Short Mul x y n p q = rw (p, q, keeps) refl
+calculation-told R i a d s keeps Short Div x y n p q = rw (p, q, keeps) refl
+calculation-told R i a d s keeps Short Or x y n p q = rw (p, q, keeps) refl
+calculation-told R i a d s keeps Short And x y n p q = rw (p, q, keeps) refl
+calculation-told R i a d s keeps Short Lsh x y n p q = rw (p, q, keeps) refl
+calculation-told R i a d s keeps Short Rsh x y n p q = rw (p, q, keeps) refl
+calculation-told R i a d s keeps Short operation.Neg x y n p q = rw (p, q, keeps) refl
+calculation-told R i a d s keeps Short Mod x y n p q = rw (p, q, keeps) refl
+calculation-told R i a d s keeps Short Xor x y n p q = rw (p, q, keeps) refl
+calculation-told R i a d s keeps Short Mov x y n p q = absurd (n refl)
+calculation-told R i a d s keeps Short Arsh x y n p q = rw (p, q, keeps) refl
+
+arithmetic-told : (R i : ℕ) (a : Facts) (d : ℕ) (s : Operand) → eqb d 10 ≡ false → OfArithmetic R i a d s
+unfolding effect arithmetic role reading readingBoth isNever isMixed calculate sum difference put bits
+arithmetic-told R i a d s keeps =
+    record {
+      calculates = calculation-told R i a d s keeps;
+      moves = λ y q. rw (q, keeps) refl;
+      moves-low = λ y q. rw (q, keeps) refl;
+      negates = λ w x p. rw (p, keeps) refl;
+      address-plus-number = λ p o n e f. rw (e, f, keeps) refl;
+      number-plus-address = λ p o n e f. rw (e, f, keeps) refl;
+      address-less-number = λ p o n e f. rw (e, f, keeps) refl;
+      address-moves = λ p o f. rw (f, keeps) refl;
+    }
+
+-- ---- memory
+memory-told : (R i : ℕ) (a : Facts) (z : Size) (o : Number) (off : ℕ) → OfMemory R i a z o off
+unfolding effect reading readingBoth isNever isMixed load put limit store storeAt fits
+memory-told R i a z o off =
+    let last = computed 64 Add o (exact off) .range .hi + bytes z in
+    record {
+      load-of-record = λ d s k e f. rw (e, le-leb last R f, k) refl;
+      load-past-record = λ d s e f. rw (e, lt-leb last R f) refl;
+      load-of-stack = λ d s k e f. rw (e, le-leb last 512 f, k) refl;
+      load-past-stack = λ d s e f. rw (e, lt-leb last 512 f) refl;
+      store-into-stack = λ d s n e g f. rw (e, g, le-leb last 512 f) refl;
+    }
+
+-- ---- registers
+-- a register that is written holds the value, and every other what it held
+having-written : (a : Facts) (d : ℕ) (v : Value) → d < length (a .registers) → valueOf (having a d v) d ≡ v
+unfolding valueOf having
+having-written a d v l = getD-set-same (a .registers) d v (Unusable Never) l
+
+having-others : (a : Facts) (d r : ℕ) (v : Value) → (r ≡ d → ⊥) → valueOf (having a d v) r ≡ valueOf a r
+unfolding valueOf having
+having-others a d r v h = getD-set-other (a .registers) d r v (Unusable Never) h
+
+-- register by register
+joined-values-at : (us vs : List Value) (r : ℕ) → length us ≡ length vs → getD (joinedValues us vs) r (Unusable Never) ≡ joinedValue (getD us r (Unusable Never)) (getD vs r (Unusable Never))
+unfolding joinedValues joinedValue joinedGone
+joined-values-at [] [] r e = refl
+joined-values-at [] (v ∷ vs) r e = absurd (omega arith)
+joined-values-at (u ∷ us) [] r e = absurd (omega arith)
+joined-values-at (u ∷ us) (v ∷ vs) zero e = refl
+joined-values-at (u ∷ us) (v ∷ vs) (suc r) e = joined-values-at us vs r (omega arith)
+
+registers-told : (a : Facts) → OfRegisters a
+unfolding valueOf operandOf joinedFacts joinedValue sameRegion
+registers-told a =
+    record {
+      written = having-written a;
+      others = having-others a;
+      immediate-is-exact = λ n. refl;
+      register-as-known = λ r. refl;
+      joins = λ b e r. joined-values-at (a .registers) (b .registers) r e;
+      numbers-join = λ x y. refl;
+      offsets-join = same;
+    }
+  where
+    same : (p : Region) (x y : Number) → joinedValue (Address p x) (Address p y) ≡ Address p (joinedNumber x y)
+    same Record x y = refl
+    same Stack x y = refl
+
+-- ---- ways
+-- a way out of a jump that is possible
+along-possible : (a : Facts) (d : ℕ) (s : Operand) (x y : Number) → WayOut a d s x y (along a d s (Possible x y))
+unfolding along withOperand having
+along-possible a d (Immediate n) x y = record {
+  facts = having a d (Plain x);
+  followed-on = refl;
+  others = λ r h k. having-others a d r (Plain x) h;
+  second = λ r e l. let z : _≡_ {A = ℕ} 0 1 = cc in absurd (omega arith);
+  first = λ l k. having-written a d (Plain x) l;
+  as-many = simp length-set;
+}
+along-possible a d (Register t) x y = record {
+  facts = having (having a d (Plain x)) t (Plain y);
+  followed-on = refl;
+  others = λ r h k. having-others (having a d (Plain x)) t r (Plain y) (λ e. k (ap Register (sym e))) ∙ having-others a d r (Plain x) h;
+  second = λ r e l. let q : t ≡ r = cc in subst (λ u. valueOf (having (having a d (Plain x)) t (Plain y)) u ≡ Plain y) q
+      (having-written (having a d (Plain x)) t (Plain y) (simp length-set (rw q l)));
+  first = λ l k. having-others (having a d (Plain x)) t d (Plain y) (λ e. k (ap Register (sym e))) ∙ having-written a d (Plain x) l;
+  as-many = simp length-set;
+}
+
+ways-told : (R i : ℕ) (a : Facts) → OfWays R i a
+unfolding apply effect reading readingBoth isNever isMixed exit fork told along
+ways-told R i a =
+    record {
+      put-flows = λ d v. refl;
+      keep-flows = refl;
+      stop-flows = refl;
+      goto-flows = λ off. refl;
+      number-may-be-returned = λ x e. rw e refl;
+      jump-flows = λ w c d s off x y p q. rw (p, q) refl;
+      told-long = λ c way x y. refl;
+      told-short = λ c way x y. refl;
+      excluded-not-followed = λ d s. refl;
+      possible-followed = along-possible a;
+    }
+
+-- ---- eleven registers, always: so the joins are register by register
+
+abbrev Eleven : Option Facts → Type 0
+Eleven none = Unit {0}
+Eleven (some a) = length (a .registers) ≡ 11
+
+joined-length : (us vs : List Value) → length us ≡ length vs → length (joinedValues us vs) ≡ length us
+unfolding joinedValues
+joined-length [] vs e = refl
+joined-length (u ∷ us) [] e = absurd (omega arith)
+joined-length (u ∷ us) (v ∷ vs) e = ap suc (joined-length us vs (omega arith))
+
+together-eleven : (u v : Option Facts) → Eleven u → Eleven v → Eleven (together u v)
+unfolding together joinedFacts
+together-eleven u none g h = g
+together-eleven none (some b) g h = h
+together-eleven (some a) (some b) g h = joined-length (a .registers) (b .registers) (g ∙ sym h) ∙ g
+
+cond-eleven : (t : Bool) (o : Option Facts) → Eleven o → Eleven (cond t o none)
+cond-eleven true o h = h
+cond-eleven false o h = tt
+
+along-eleven : (a : Facts) (d : ℕ) (s : Operand) (r : Refined) → length (a .registers) ≡ 11 → Eleven (along a d s r)
+unfolding along withOperand having
+along-eleven a d s Excluded e = tt
+along-eleven a d (Immediate n) (Possible x y) e = simp length-set e
+along-eleven a d (Register t) (Possible x y) e = simp length-set e
+
+flowing-eleven : (i j : ℕ) (a : Facts) (e : Effect) (w : Option Facts) → length (a .registers) ≡ 11 → Eleven w → Eleven (flowing i j (apply a e) w)
+unfolding flowing apply having
+flowing-eleven i j a (Refuse reason) w h g = g
+flowing-eleven i j a (Put d v) w h g =
+    together-eleven _ _ (together-eleven w _ g (cond-eleven (eqb j (i + 1)) (some (having a d v)) (simp length-set h))) (cond-eleven (eqb j 0) none tt)
+flowing-eleven i j a Keep w h g = together-eleven _ _ (together-eleven w _ g (cond-eleven (eqb j (i + 1)) (some a) h)) (cond-eleven (eqb j 0) none tt)
+flowing-eleven i j a (Fork d s o t target) w h g =
+    together-eleven _ _ (together-eleven w _ g (cond-eleven (eqb j (i + 1)) (along a d s o) (along-eleven a d s o h))) (cond-eleven (eqb j target) (along a d s t) (along-eleven a d s t h))
+flowing-eleven i j a (Goto target) w h g = together-eleven _ _ (together-eleven w _ g (cond-eleven (eqb j (i + 1)) none tt)) (cond-eleven (eqb j target) (some a) h)
+flowing-eleven i j a Stop w h g = together-eleven _ _ (together-eleven w _ g (cond-eleven (eqb j (i + 1)) none tt)) (cond-eleven (eqb j 0) none tt)
+
+flow-eleven : (program : List ℕ) (R i : ℕ) (o : Option Facts) (j : ℕ) (w : Option Facts) → Eleven o → Eleven w → Eleven (flow program R i o j w)
+unfolding flow
+flow-eleven program R i none j w h g = g
+flow-eleven program R i (some a) j w h g = flowing-eleven i j a (effect R i a (instruction program i)) w h g
+
+known-eleven : (program : List ℕ) (R i j : ℕ) → Eleven (knownFrom program R i j)
+unfolding knownFrom startFacts
+known-eleven program R zero j = cond-eleven (eqb j 0) (some startFacts) refl
+known-eleven program R (suc i) j = flow-eleven program R i (knownFrom program R i i) j (knownFrom program R i j) (known-eleven program R i i) (known-eleven program R i j)
+
+-- ---- all sentences
+pub sentences-told : Sentences
+unfolding valueOf startFacts known
+sentences-told =
+    record {
+      arithmetic = arithmetic-told;
+      memory = memory-told;
+      ways = ways-told;
+      registers = registers-told;
+      r1-is-the-record = refl;
+      r10-is-the-end-of-the-stack = refl;
+      eleven = λ program R j a e. subst Eleven e (known-eleven program R j j);
+      numbers = all-demanded;
+    }
