@@ -8,7 +8,6 @@ use native.Mathlib.Omega.{arith}
 use lib.ListN.{length, set, getD, length-set}
 use lib.Seq.{getD-set-same, getD-set-other}
 use lib.Dec.{eqb}
-use borrow.Author.Tests.{le-leb, lt-leb}
 use Rattle.word.specs.declared.Operation.{Operation}
 use Rattle.word.specs.declared.Operation.the-variants.{Add, Sub, Mul, Div, Or, And, Lsh, Rsh, Mod, Xor, Mov, Arsh}
 use Rattle.word.specs.declared.Operation.the-variants as operation
@@ -23,8 +22,8 @@ use Rattle.number.specs.declared.Number.{Number}
 use Rattle.number.specs.declared.Refined.{Refined}
 use Rattle.number.specs.declared.Refined.the-variants.{Excluded, Possible}
 use Rattle.number.specs.Sharpen.{exact, joinedNumber}
-use Rattle.number.specs.Computed.{computed, fits}
-use Rattle.number.proofs.Laws.{all-demanded}
+use Rattle.number.specs.Computed.{computed}
+use Rattle.number.proofs.Laws.{fits-exactly, fits-not, all-demanded}
 use Rattle.analysis.specs.declared.Region.{Region}
 use Rattle.analysis.specs.declared.Region.the-variants.{Record, Stack}
 use Rattle.analysis.specs.declared.Gone.the-variants.{Never}
@@ -85,15 +84,15 @@ arithmetic-told R i a d s keeps =
 
 -- ---- memory
 memory-told : (R i : ℕ) (a : Facts) (z : Size) (o : Number) (off : ℕ) → OfMemory R i a z o off
-unfolding effect reading readingBoth isNever isMixed load put limit store storeAt fits
+unfolding effect reading readingBoth isNever isMixed load put limit store storeAt
 memory-told R i a z o off =
-    let last = computed 64 Add o (exact off) .range .hi + bytes z in
+    let n = computed 64 Add o (exact off) in
     record {
-      load-of-record = λ d s k e f. rw (e, le-leb last R f, k) refl;
-      load-past-record = λ d s e f. rw (e, lt-leb last R f) refl;
-      load-of-stack = λ d s k e f. rw (e, le-leb last 512 f, k) refl;
-      load-past-stack = λ d s e f. rw (e, lt-leb last 512 f) refl;
-      store-into-stack = λ d s n e g f. rw (e, g, le-leb last 512 f) refl;
+      load-of-record = λ d s k e f. rw (e, fits-exactly n (bytes z) R .1 f, k) refl;
+      load-past-record = λ d s e f. rw (e, fits-not n (bytes z) R f) refl;
+      load-of-stack = λ d s k e f. rw (e, fits-exactly n (bytes z) 512 .1 f, k) refl;
+      load-past-stack = λ d s e f. rw (e, fits-not n (bytes z) 512 f) refl;
+      store-into-stack = λ d s m e g f. rw (e, g, fits-exactly n (bytes z) 512 .1 f) refl;
     }
 
 -- ---- registers

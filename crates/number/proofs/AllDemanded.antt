@@ -1,9 +1,7 @@
 -- Everything that is demanded of Numbers holds.
-use mathlib.Core.Path.{_≡_, refl}
-use mathlib.Core.Bool.{Bool, true}
-use mathlib.Core.Logic.{_↔_}
-use Prim.Native.Nat.{ℕ, _+_, _^_, _≤_, _<_}
-use borrow.Author.Tests.{leb-true, le-leb}
+use mathlib.Core.Path.{refl}
+use mathlib.Core.Bool.{Bool}
+use Prim.Native.Nat.{ℕ, _^_, _≤_, _<_}
 use Rattle.word.specs.declared.Comparison.{Comparison}
 use Rattle.known_bits.specs.KnownBits.{Well}
 use Rattle.known_bits.proofs.Computing.{calculated-computed}
@@ -11,11 +9,10 @@ use Rattle.known_bits.proofs.ProductsWithin.{product-within-shift-and-add, prod
 use Rattle.number.specs.declared.Range.{Range}
 use Rattle.number.specs.declared.Number.{Number}
 use Rattle.number.specs.Sharpen.{just, exact, everything, loaded}
-use Rattle.number.specs.Computed.{fits}
 use Rattle.number.specs.Demanded.{OfOperations, LeastRanges, OfMemory, OfJoins, OfJumps, OfLowHalves, OfJset, Demanded}
 use Rattle.number.proofs.AgainstKnown.{excluded-if-none-goes, refined-tightest, set-not-taken-clears, refined-exact-excluded}
 use Rattle.number.proofs.Compare.{refined-sound, refined-narrower}
-use Rattle.number.proofs.Computing.{computed-sound, computed-exact, computed-bits-within, computed-range-within}
+use Rattle.number.proofs.Computing.{computed-sound, computed-exact, computed-bits-within, computed-range-within, fits-exactly}
 use Rattle.number.proofs.Exclusion.{excluded-by-ranges, excluded-by-bits}
 use Rattle.number.proofs.Halves.{refined32-sound, refined32-narrower, refined32-upper, refined32-exact-excluded}
 use Rattle.number.proofs.HalvesAgainstKnown.{excluded32-if-none-goes, refined32-tightest}
@@ -52,11 +49,6 @@ least-ranges a b na nb =
       left = left-range-tightest a b na nb;
       right = right-range-tightest a b na nb;
     }
-
--- an access fits if and only if its last byte at the highest offset lies below the limit
-pub fits-exactly : (n : Number) (size l : ℕ) → (fits n size l ≡ true) ↔ (n .range .hi + size ≤ l)
-unfolding fits
-fits-exactly n size l = (leb-true (n .range .hi + size) l, le-leb (n .range .hi + size) l)
 
 memory : OfMemory
 unfolding loaded everything exact just

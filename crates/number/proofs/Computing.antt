@@ -1,6 +1,6 @@
 -- Each operation on Numbers: it loses no result, is no wider than its known bits and its range, and exact for exact operands.
 use mathlib.Core.Path.{_≡_, refl}
-use mathlib.Core.Bool.{true}
+use mathlib.Core.Bool.{Bool, true, false}
 use mathlib.Core.Logic.{_↔_}
 use Prim.Native.Nat.{ℕ, _+_, _^_, _≤_, _<_}
 use native.Mathlib.Omega.{arith}
@@ -72,10 +72,20 @@ computed-exact w h op x y hx hy =
     (computed-range-has w h op (exact x) (exact y) x y (exact-in x hx) (exact-in y hy))
 
 -- ---- size bytes at each of these offsets
-pub fits-sound : (n : Number) (size limit x : ℕ) → fits n size limit ≡ true → In n x → x + size ≤ limit
+pub fits-exactly : (n : Number) (size limit : ℕ) → (fits n size limit ≡ true) ↔ (n .range .hi + size ≤ limit)
 unfolding fits
-fits-sound n size limit x t i = omega (arith, leb-true (n .range .hi + size) limit t, i .range .high)
+fits-exactly n size limit = (leb-true (n .range .hi + size) limit, le-leb (n .range .hi + size) limit)
+
+pub fits-not : (n : Number) (size limit : ℕ) → limit < n .range .hi + size → fits n size limit ≡ false
+fits-not n size limit l = go (fits n size limit) refl
+  where
+    go : (b : Bool) → fits n size limit ≡ b → b ≡ false
+    go true e = absurd (omega (arith, fits-exactly n size limit .0 e))
+    go false e = refl
+
+pub fits-sound : (n : Number) (size limit x : ℕ) → fits n size limit ≡ true → In n x → x + size ≤ limit
+fits-sound n size limit x t i = omega (arith, fits-exactly n size limit .0 t, i .range .high)
 
 pub fits-exact : (x size limit : ℕ) → (fits (exact x) size limit ≡ true) ↔ (x + size ≤ limit)
-unfolding fits exact just
-fits-exact x size limit = (leb-true (x + size) limit, le-leb (x + size) limit)
+unfolding exact just
+fits-exact x size limit = fits-exactly (exact x) size limit

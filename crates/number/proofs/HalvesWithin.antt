@@ -37,7 +37,7 @@ use Rattle.number.proofs.Compare.{refined-narrower, refined-form}
 use Rattle.number.proofs.Computing.{computed-bits-within, computed-best}
 use Rattle.number.proofs.Exclusion.{excluded-by-bits}
 use Rattle.number.proofs.HalfOrders.{key, keyBy, compare-by-keys, moved-back}
-use Rattle.number.proofs.HalfBits.{LowAgrees, halves-low, halves-low-bit, completed}
+use Rattle.number.proofs.HalfBits.{LowAgrees, halves-low, completed, halves-of-bits-low}
 use Rattle.number.proofs.Halves.{low-half-form, low-half-exact, member-agrees, low-half-agrees, compared-form, excluded-stays, refined32-is}
 use Rattle.number.proofs.Known.{exact-in}
 use Rattle.number.proofs.Outcomes.{left-map, left-both, settled-leaves}
@@ -211,13 +211,11 @@ excluded32-by-bits c way other d s gd gs none =
 -- ---- without a sign the low halves themselves are compared
 module _ (n l : Number) (small : l .bits .value < 2 ^ 32) where
   with-low-bits : LowBitsWithin (withLow n l) l
-  unfolding withLow halvesOfBits
+  unfolding withLow
   with-low-bits x i = record { fits = omega (arith, cut-below 32 x); agrees = λ k h e. at k e (decLt k 32) }
     where
       at : (k : ℕ) → bit k (l .bits .mask) ≡ 0 → Dec (k < 32) → bit k (cut 32 x) ≡ bit k (l .bits .value)
-      at k e (yes h) =
-          cut-bit 32 k x h ∙ i .agrees k (omega arith) (halves-low-bit (n .bits .mask) (l .bits .mask) k h ∙ e)
-          ∙ halves-low-bit (n .bits .value) (l .bits .value) k h
+      at k e (yes h) = cut-bit 32 k x h ∙ halves-of-bits-low (n .bits) (l .bits) x i .agrees k h e
       at k e (no h) = high-bit 32 k (cut 32 x) h (cut-below 32 x) ∙ sym (high-bit 32 k (l .bits .value) h small)
 
 record Bare (c : Comparison) : Type 0 where

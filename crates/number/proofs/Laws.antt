@@ -3,7 +3,7 @@
 -- what is known without a calculation, and where paths join
 pub use Rattle.number.proofs.Known.{exact-in, exact-only, loaded-in, joined-covers-left, joined-covers-right}
 -- an operation on members gives a member, and on exact numbers the exact one; an offset that fits
-pub use Rattle.number.proofs.Computing.{computed-sound, computed-exact, computed-bits-within, computed-range-within, computed-best, fits-sound, fits-exact}
+pub use Rattle.number.proofs.Computing.{computed-sound, computed-exact, computed-bits-within, computed-range-within, computed-best, fits-exactly, fits-not, fits-sound, fits-exact}
 -- a way out of a comparison keeps all pairs that go it, and on exact numbers says which way is gone
 pub use Rattle.number.proofs.Compare.{refined-sound, refined-narrower}
 pub use Rattle.number.proofs.AgainstKnown.{refined-exact, refined-exact-excluded}
