@@ -4,7 +4,6 @@ ghost use lib.ListN.{length};
 ghost use Rattle.orders.specs.Orders.{Placed};
 use lines::explain;
 use lines::show;
-use loading::Loaded;
 use orders::Order;
 use orders::Parsed;
 use orders::Verb;
@@ -15,6 +14,7 @@ use terminal::arguments::help_on;
 use terminal::arguments::refuse_arguments;
 use terminal::arguments::refuse_words;
 use terminal::arguments::take_arguments;
+use terminal::program::LONGEST_FILE;
 use terminal::program::fetch_program;
 use verifier::verify::verify;
 use waiting::MOST_WORDS;
@@ -50,9 +50,7 @@ fn perform(
 fn obey(
     args: &[u8],
     order: Order,
-    file: &mut [u8],
-    bare: &mut [u8],
-    spelled: &mut [u8],
+    program: &mut [u8],
     scratch: &mut [u64],
     rec: &mut [u8],
     stack: &mut [u8],
@@ -60,25 +58,16 @@ fn obey(
 )
     requires { ⌜ Placed (length (now args)) order ⌝ }
 {
-    let loaded = fetch_program(args, order, file, bare, spelled, out);
-    match loaded {
-        Loaded::InFile { start, end } => {
-            perform(args, &file[start..end], order, scratch, rec, stack, out)
-        }
-        Loaded::Spelled { length } => {
-            perform(args, &spelled[0..length], order, scratch, rec, stack, out)
-        }
-        Loaded::BadObject(_) => {}
-        Loaded::BadDump(_) => {}
-        Loaded::Nothing => {}
+    let fetched = fetch_program(args, order, program, out);
+    if fetched.found {
+        let n = fetched.length;
+        perform(args, &program[0..n], order, scratch, rec, stack, out);
     }
 }
 
 fn serve(
     args: &[u8],
-    file: &mut [u8],
-    bare: &mut [u8],
-    spelled: &mut [u8],
+    program: &mut [u8],
     scratch: &mut [u64],
     rec: &mut [u8],
     stack: &mut [u8],
@@ -86,18 +75,16 @@ fn serve(
 ) {
     let parsed = parse(args);
     match parsed {
-        Parsed::Do(order) => obey(args, order, file, bare, spelled, scratch, rec, stack, out),
+        Parsed::Do(order) => obey(args, order, program, scratch, rec, stack, out),
         Parsed::HelpOn(topic) => help_on(topic, out),
         Parsed::Wrong { fault, at } => refuse_words(args, fault, at, out),
     }
 }
 
-// Memory for the longest program in the longest text, and the verifier's.
+// Memory for the longest program and the verifier's.
 fn main() {
     let mut args = [0u8; 65536];
-    let mut file = [0u8; 524288];
-    let mut bare = [0u8; 524288];
-    let mut spelled = [0u8; 262144];
+    let mut program = [0u8; LONGEST_FILE];
     let mut scratch = [0u64; MOST_WORDS];
     let mut rec = [0u8; 1026];
     let mut stack = [0u8; 512];
@@ -109,9 +96,7 @@ fn main() {
     }
     serve(
         &args[0..n],
-        &mut file,
-        &mut bare,
-        &mut spelled,
+        &mut program,
         &mut scratch,
         &mut rec,
         &mut stack,

@@ -3,7 +3,6 @@
 ghost use Prim.Native.Nat.{_≤_};
 ghost use lib.ListN.{length};
 ghost use Rattle.orders.specs.Orders.{Placed};
-use loading::Loaded;
 use orders::Order;
 use orders::Parsed;
 use orders::Verb;
@@ -14,6 +13,7 @@ use terminal::arguments::refuse_arguments;
 use terminal::arguments::refuse_words;
 use terminal::arguments::take_arguments;
 use terminal::ending::status;
+use terminal::program::LONGEST_FILE;
 use terminal::program::fetch_program;
 use verifier::verify::verify;
 use waiting::MOST_WORDS;
@@ -26,41 +26,21 @@ fn judge(program: &[u8], record_len: u64, scratch: &mut [u64], out: &mut [u8]) {
 fn judge_file(
     args: &[u8],
     order: Order,
-    file: &mut [u8],
-    bare: &mut [u8],
-    spelled: &mut [u8],
+    program: &mut [u8],
     scratch: &mut [u64],
     out: &mut [u8],
 )
     requires { ⌜ Placed (length (now args)) order ⌝ }
 {
-    let record_len = order.length;
-    let loaded = fetch_program(args, order, file, bare, spelled, out);
-    match loaded {
-        Loaded::InFile { start, end } => judge(&file[start..end], record_len, scratch, out),
-        Loaded::Spelled { length } => judge(&spelled[0..length], record_len, scratch, out),
-        Loaded::BadObject(_) => {}
-        Loaded::BadDump(_) => {}
-        Loaded::Nothing => {}
+    let fetched = fetch_program(args, order, program, out);
+    if fetched.found {
+        let n = fetched.length;
+        judge(&program[0..n], order.length, scratch, out);
     }
 }
 
-fn obey(
-    args: &[u8],
-    order: Order,
-    file: &mut [u8],
-    bare: &mut [u8],
-    spelled: &mut [u8],
-    scratch: &mut [u64],
-    out: &mut [u8],
-)
-    requires { ⌜ Placed (length (now args)) order ⌝ }
-{
-    let verb = order.verb;
-    if let Verb::Verify = verb {
-        judge_file(args, order, file, bare, spelled, scratch, out);
-        return;
-    }
+// The other verbs are the business of crate `command`.
+fn refuse_verb() {
     io::write_all(
         2,
         b"probewarden: this program has the verbs verify and help\n",
@@ -70,26 +50,29 @@ fn obey(
 
 fn serve(
     args: &[u8],
-    file: &mut [u8],
-    bare: &mut [u8],
-    spelled: &mut [u8],
+    program: &mut [u8],
     scratch: &mut [u64],
     out: &mut [u8],
 ) {
     let parsed = parse(args);
     match parsed {
-        Parsed::Do(order) => obey(args, order, file, bare, spelled, scratch, out),
+        Parsed::Do(order) => {
+            let verb = order.verb;
+            if let Verb::Verify = verb {
+                judge_file(args, order, program, scratch, out);
+                return;
+            }
+            refuse_verb();
+        }
         Parsed::HelpOn(topic) => help_on(topic, out),
         Parsed::Wrong { fault, at } => refuse_words(args, fault, at, out),
     }
 }
 
-// Memory for the longest program in the longest text, and the verifier's.
+// Memory for the longest program and the verifier's.
 fn main() {
     let mut args = [0u8; 65536];
-    let mut file = [0u8; 524288];
-    let mut bare = [0u8; 524288];
-    let mut spelled = [0u8; 262144];
+    let mut program = [0u8; LONGEST_FILE];
     let mut scratch = [0u64; MOST_WORDS];
     let mut out = [0u8; 4096];
     let n = take_arguments(&mut args);
@@ -99,9 +82,7 @@ fn main() {
     }
     serve(
         &args[0..n],
-        &mut file,
-        &mut bare,
-        &mut spelled,
+        &mut program,
         &mut scratch,
         &mut out,
     );
