@@ -41,7 +41,7 @@ loaded-in k h x l =
     record { form = s .well; bits = s .sound x l; range = everything-has (8 * k) x l }
 
 -- ---- a join
-low-of-words : (p : Bits) → p .value < 2 ^ 64 → p .mask < 2 ^ 64 → low 64 p ≡ p
+pub low-of-words : (p : Bits) → p .value < 2 ^ 64 → p .mask < 2 ^ 64 → low 64 p ≡ p
 unfolding low
 low-of-words p v m = λ i. record { value = cut-64 v i; mask = cut-64 m i }
 
