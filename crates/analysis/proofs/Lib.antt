@@ -9,6 +9,9 @@ pub mod Paths
 pub mod Programs
 pub mod Refusing
 pub mod Running
+pub mod SharperEffects
+pub mod SharperPrograms
+pub mod SharperValues
 pub mod Simulation
 pub mod Sound
 pub mod Stable

@@ -39,7 +39,7 @@ use Rattle.analysis.specs.declared.Effect.the-variants.{Refuse, Put, Kee
 use Rattle.analysis.specs.Values.{Facts, valueOf, operandOf, startFacts, joinedValue, joinedValues, joinedFacts, meeting}
 use Rattle.analysis.specs.Effects.{isNever, isMixed, reading, readingBoth, put, limit, load, storeAt, store, told, exit, effect}
 use Rattle.analysis.specs.Form.{instruction}
-use Rattle.analysis.specs.Judged.{flows, having, withOperand, along, apply}
+use Rattle.analysis.specs.Judged.{Flow, refuses, flows, having, withOperand, along, apply}
 use Rattle.analysis.specs.Promise.{together, flowing, flow, knownFrom, known, WayOut}
 use Rattle.analysis.proofs.Useful.{fork-on-numbers, joined-by-register}
 
@@ -203,13 +203,13 @@ joined-length [] vs e = refl
 joined-length (u ∷ us) [] e = absurd (omega arith)
 joined-length (u ∷ us) (v ∷ vs) e = ap suc (joined-length us vs (omega arith))
 
-together-eleven : (u v : Option Facts) → Eleven u → Eleven v → Eleven (together u v)
+pub together-eleven : (u v : Option Facts) → Eleven u → Eleven v → Eleven (together u v)
 unfolding together joinedFacts
 together-eleven u none g h = g
 together-eleven none (some b) g h = h
 together-eleven (some a) (some b) g h = joined-length (a .registers) (b .registers) (g ∙ sym h) ∙ g
 
-cond-eleven : (t : Bool) (o : Option Facts) → Eleven o → Eleven (cond t o none)
+pub cond-eleven : (t : Bool) (o : Option Facts) → Eleven o → Eleven (cond t o none)
 cond-eleven true o h = h
 cond-eleven false o h = tt
 
@@ -219,21 +219,30 @@ along-eleven a d s Excluded e = tt
 along-eleven a d (Immediate n) (Possible x y) e = simp length-set e
 along-eleven a d (Register t) (Possible x y) e = simp length-set e
 
-flowing-eleven : (i j : ℕ) (a : Facts) (e : Effect) (w : Option Facts) → length (a .registers) ≡ 11 → Eleven w → Eleven (flowing i j (apply a e) w)
-unfolding flowing apply having
-flowing-eleven i j a (Refuse reason) w h g = g
-flowing-eleven i j a (Put d v) w h g =
-    together-eleven _ _ (together-eleven w _ g (cond-eleven (eqb j (i + 1)) (some (having a d v)) (simp length-set h))) (cond-eleven (eqb j 0) none tt)
-flowing-eleven i j a Keep w h g = together-eleven _ _ (together-eleven w _ g (cond-eleven (eqb j (i + 1)) (some a) h)) (cond-eleven (eqb j 0) none tt)
-flowing-eleven i j a (Fork d s o t target) w h g =
-    together-eleven _ _ (together-eleven w _ g (cond-eleven (eqb j (i + 1)) (along a d s o) (along-eleven a d s o h))) (cond-eleven (eqb j target) (along a d s t) (along-eleven a d s t h))
-flowing-eleven i j a (Goto target) w h g = together-eleven _ _ (together-eleven w _ g (cond-eleven (eqb j (i + 1)) none tt)) (cond-eleven (eqb j target) (some a) h)
-flowing-eleven i j a Stop w h g = together-eleven _ _ (together-eleven w _ g (cond-eleven (eqb j (i + 1)) none tt)) (cond-eleven (eqb j 0) none tt)
+-- what flows out of an index
+abbrev pub ElevenFlow : Flow → Type 0
+ElevenFlow (refuses reason) = Unit {0}
+ElevenFlow (flows next there target) = Eleven next × Eleven there
+
+pub apply-eleven : (a : Facts) (e : Effect) → length (a .registers) ≡ 11 → ElevenFlow (apply a e)
+unfolding apply having
+apply-eleven a (Refuse reason) h = tt
+apply-eleven a (Put d v) h = (simp length-set h, tt)
+apply-eleven a Keep h = (h, tt)
+apply-eleven a (Fork d s o t target) h = (along-eleven a d s o h, along-eleven a d s t h)
+apply-eleven a (Goto target) h = (tt, h)
+apply-eleven a Stop h = (tt, tt)
+
+flowing-eleven : (i j : ℕ) (f : Flow) (w : Option Facts) → ElevenFlow f → Eleven w → Eleven (flowing i j f w)
+unfolding flowing
+flowing-eleven i j (refuses reason) w h g = g
+flowing-eleven i j (flows next there target) w h g =
+    together-eleven _ _ (together-eleven w _ g (cond-eleven (eqb j (i + 1)) next (h .0))) (cond-eleven (eqb j target) there (h .1))
 
 flow-eleven : (program : List ℕ) (R i : ℕ) (o : Option Facts) (j : ℕ) (w : Option Facts) → Eleven o → Eleven w → Eleven (flow program R i o j w)
 unfolding flow
 flow-eleven program R i none j w h g = g
-flow-eleven program R i (some a) j w h g = flowing-eleven i j a (effect R i a (instruction program i)) w h g
+flow-eleven program R i (some a) j w h g = flowing-eleven i j _ w (apply-eleven a (effect R i a (instruction program i)) h) g
 
 pub known-eleven : (program : List ℕ) (R i j : ℕ) → Eleven (knownFrom program R i j)
 unfolding knownFrom startFacts

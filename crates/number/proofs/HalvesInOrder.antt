@@ -242,3 +242,7 @@ refined32-in-order c way d′ s′ d s gd′ gs′ gd gs hd hs =
     (λ k. rw (refined32-is c way d′ s′, refined32-is c way d s)
     (whole-in-order d′ s′ d s gd′ gs′ gd gs hd hs (lowHalves c d′ s′ (told c way d′ s′)) (lowHalves c d s (told c way d s))
     (halves-forms c way d′ s′ gd′ gs′) (halves-forms c way d s gd gs) (halves-in-order d′ s′ d s gd gs hd hs (k .0) (k .1) c way)))
+
+pub refined32-form : (c : Comparison) (way : Bool) (d s : Number) → Well 64 (d .bits) → Well 64 (s .bits) → Left (refined32 c way d s) Forms
+refined32-form c way d s gd gs =
+    left-map (refined32 c way d s) (Sharper d s) Forms (λ d′ s′ h. (h .form-first gd, h .form-second gs)) (refined32-sharper c way d s gd gs)
