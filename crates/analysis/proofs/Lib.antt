@@ -1,4 +1,5 @@
 pub mod Annotated
+pub mod Eleven
 pub mod ExactEffects
 pub mod FormLaws
 pub mod Judgement
@@ -10,6 +11,9 @@ pub mod Promised
 pub mod Refusing
 pub mod Running
 pub mod Sentences
+pub mod SharperEffects
+pub mod SharperPrograms
+pub mod SharperValues
 pub mod Simulation
 pub mod Sound
 pub mod Stable

@@ -106,3 +106,18 @@ leak-possible = 0x7112000000000000 ∷ 0x1502020002000000 ∷ 0xb700000000000000
 -- JA back at index 1, and no instruction at index 2
 unfoldable pub two-faults : List ℕ
 two-faults = 0xb700000000000000 ∷ 0x0500ffff00000000 ∷ 0x8f00000000000000 ∷ 0x9500000000000000 ∷ []
+
+-- what two programs do with r2
+unfoldable pub from-a-load : List ℕ
+from-a-load =
+    0xbf23000000000000 ∷ 0x5703000001000000 ∷ 0x6703000007000000 ∷ 0x7702000005000000 ∷ 0x5702000008000000 ∷ 0x4f23000000000000 ∷ 0x4703000070000000
+        ∷ 0xa503060071000000 ∷ 0x2503050081000000 ∷ 0x1703000070000000 ∷ 0x1703000001000000 ∷ 0x0f31000000000000 ∷ 0x7110000000000000 ∷ 0x9500000000000000
+        ∷ 0xb700000000000000 ∷ 0x9500000000000000 ∷ []
+
+-- r2 = 2 bytes; r3 = bit 0 of r2 as 128, or bit 8 of r2 as 8, or 112; if r3 is from 113 to 129 answer the byte at r3 - 113, else 0
+unfoldable pub two-bytes : List ℕ
+two-bytes = 0x6912000000000000 ∷ from-a-load
+
+-- the same of 1 byte, of which bit 8 is 0: r3 is 112 or 240
+unfoldable pub one-byte : List ℕ
+one-byte = 0x7112000000000000 ∷ from-a-load

@@ -35,7 +35,8 @@ use Rattle.analysis.specs.Values.{Facts, valueOf, operandOf, startFacts,
 use Rattle.analysis.specs.Effects.{isNever, isMixed, reading, readingBoth, put, role, calculate, sum, difference, arithmetic, limit, load, storeAt, store, told, fork, exit, effect}
 use Rattle.analysis.specs.Form.{instruction}
 use Rattle.analysis.specs.Judged.{having, withOperand, along, apply}
-use Rattle.analysis.specs.Promise.{together, flowing, flow, knownFrom, known, WayOut, OfArithmetic, OfMemory, OfWays, OfRegisters, Sentences}
+use Rattle.analysis.specs.Promise.{known, WayOut, OfArithmetic, OfMemory, OfWays, OfRegisters, Sentences}
+use Rattle.analysis.proofs.Eleven.{Eleven, known-eleven}
 
 -- ---- arithmetic
 calculation-told : (R i : ℕ) (a : Facts) (d : ℕ) (s : Operand) → eqb d 10 ≡ false → (w : Width) (op : Operation) (x y : Number) → ¬ (op ≡ Mov)
@@ -168,55 +169,6 @@ ways-told R i a =
       excluded-not-followed = λ d s. refl;
       possible-followed = along-possible a;
     }
-
--- ---- eleven registers, always: so the joins are register by register
-
-abbrev Eleven : Option Facts → Type 0
-Eleven none = Unit {0}
-Eleven (some a) = length (a .registers) ≡ 11
-
-joined-length : (us vs : List Value) → length us ≡ length vs → length (joinedValues us vs) ≡ length us
-unfolding joinedValues
-joined-length [] vs e = refl
-joined-length (u ∷ us) [] e = absurd (omega arith)
-joined-length (u ∷ us) (v ∷ vs) e = ap suc (joined-length us vs (omega arith))
-
-together-eleven : (u v : Option Facts) → Eleven u → Eleven v → Eleven (together u v)
-unfolding together joinedFacts
-together-eleven u none g h = g
-together-eleven none (some b) g h = h
-together-eleven (some a) (some b) g h = joined-length (a .registers) (b .registers) (g ∙ sym h) ∙ g
-
-cond-eleven : (t : Bool) (o : Option Facts) → Eleven o → Eleven (cond t o none)
-cond-eleven true o h = h
-cond-eleven false o h = tt
-
-along-eleven : (a : Facts) (d : ℕ) (s : Operand) (r : Refined) → length (a .registers) ≡ 11 → Eleven (along a d s r)
-unfolding along withOperand having
-along-eleven a d s Excluded e = tt
-along-eleven a d (Immediate n) (Possible x y) e = simp length-set e
-along-eleven a d (Register t) (Possible x y) e = simp length-set e
-
-flowing-eleven : (i j : ℕ) (a : Facts) (e : Effect) (w : Option Facts) → length (a .registers) ≡ 11 → Eleven w → Eleven (flowing i j (apply a e) w)
-unfolding flowing apply having
-flowing-eleven i j a (Refuse reason) w h g = g
-flowing-eleven i j a (Put d v) w h g =
-    together-eleven _ _ (together-eleven w _ g (cond-eleven (eqb j (i + 1)) (some (having a d v)) (simp length-set h))) (cond-eleven (eqb j 0) none tt)
-flowing-eleven i j a Keep w h g = together-eleven _ _ (together-eleven w _ g (cond-eleven (eqb j (i + 1)) (some a) h)) (cond-eleven (eqb j 0) none tt)
-flowing-eleven i j a (Fork d s o t target) w h g =
-    together-eleven _ _ (together-eleven w _ g (cond-eleven (eqb j (i + 1)) (along a d s o) (along-eleven a d s o h))) (cond-eleven (eqb j target) (along a d s t) (along-eleven a d s t h))
-flowing-eleven i j a (Goto target) w h g = together-eleven _ _ (together-eleven w _ g (cond-eleven (eqb j (i + 1)) none tt)) (cond-eleven (eqb j target) (some a) h)
-flowing-eleven i j a Stop w h g = together-eleven _ _ (together-eleven w _ g (cond-eleven (eqb j (i + 1)) none tt)) (cond-eleven (eqb j 0) none tt)
-
-flow-eleven : (program : List ℕ) (R i : ℕ) (o : Option Facts) (j : ℕ) (w : Option Facts) → Eleven o → Eleven w → Eleven (flow program R i o j w)
-unfolding flow
-flow-eleven program R i none j w h g = g
-flow-eleven program R i (some a) j w h g = flowing-eleven i j a (effect R i a (instruction program i)) w h g
-
-known-eleven : (program : List ℕ) (R i j : ℕ) → Eleven (knownFrom program R i j)
-unfolding knownFrom startFacts
-known-eleven program R zero j = cond-eleven (eqb j 0) (some startFacts) refl
-known-eleven program R (suc i) j = flow-eleven program R i (knownFrom program R i i) j (knownFrom program R i j) (known-eleven program R i i) (known-eleven program R i j)
 
 -- ---- all sentences
 pub sentences-told : Sentences

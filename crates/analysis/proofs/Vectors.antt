@@ -19,7 +19,7 @@ use Rattle.analysis.specs.Form.{instruction, offOf, goesBack, goesOut, m
 use Rattle.analysis.specs.Paths.{noTarget, aimed, reaching, connected}
 use Rattle.analysis.specs.Judged.{reasonNumber, pair, having, along, apply, nobody, arrive, send, andThen, distribute, visit, conclude, pass, orElse, formed, followed, onPaths, onForm, judged}
 use Rattle.analysis.specs.Judged as judgements
-use Rattle.analysis.proofs.Programs.{eight, program, K1, K2, K3, K4, K5, K6, K7, K8, X1, X2, X3, jset-240, byte-less-1, four-less-3, signed-15, low-half, low-half-jump, low-half-moved, K2-jump, leak-excluded-jump, stores-r1, leak-excluded, leak-possible, two-faults}
+use Rattle.analysis.proofs.Programs.{eight, program, K1, K2, K3, K4, K5, K6, K7, K8, X1, X2, X3, jset-240, byte-less-1, four-less-3, signed-15, low-half, low-half-jump, low-half-moved, K2-jump, leak-excluded-jump, stores-r1, leak-excluded, leak-possible, two-faults, from-a-load, two-bytes, one-byte}
 
 -- the answer for a record of R bytes
 answer : List ℕ → ℕ → ℕ × ℕ
@@ -237,3 +237,12 @@ dead-and-no-instruction = refl
 dead-and-unset : answer (0x9500000000000000 ∷ 0x9500000000000000 ∷ []) 0 ≡ (12, 1)
 unfolding answer
 dead-and-unset = refl
+
+two-bytes-with-8 : answer two-bytes 8 ≡ (0, 0)
+unfolding answer two-bytes from-a-load
+two-bytes-with-8 = refl
+
+-- no run comes to index 10, and what is known there contradicts itself: 112 or 240, and from 113 to 129
+one-byte-with-8 : answer one-byte 8 ≡ (8, 13)
+unfolding answer one-byte from-a-load
+one-byte-with-8 = refl

@@ -4,4 +4,5 @@ pub mod Judged
 pub mod Paths
 pub mod Promise
 pub mod Safe
+pub mod Sharper
 pub mod Values

@@ -33,10 +33,10 @@ use Rattle.known_bits.proofs.ProductLaws.{exact-product-is, product-sou
 use Rattle.known_bits.proofs.QuotientLaws.{div-at-64, mod-at-64, quotient-sound, rest-sound}
 
 -- the promise for pairs of w bits
-record Formed (w : ℕ) (op : Operation) (a b r : Bits) : Type 0 where
-  sound : Well w a → Well w b → Sound 64 (Image w (alu w op) a b) r
-  best : Demanded w op b → Well w a → Well w b → Best w (Image w (alu w op) a b) r
-  exact : a .value < 2 ^ w → b .value < 2 ^ w → a .mask ≡ 0 → b .mask ≡ 0 → r ≡ exactly (alu w op (a .value) (b .value))
+pub record Formed (w : ℕ) (op : Operation) (a b r : Bits) : Type 0 where
+  pub sound : Well w a → Well w b → Sound 64 (Image w (alu w op) a b) r
+  pub best : Demanded w op b → Well w a → Well w b → Best w (Image w (alu w op) a b) r
+  pub exact : a .value < 2 ^ w → b .value < 2 ^ w → a .mask ≡ 0 → b .mask ≡ 0 → r ≡ exactly (alu w op (a .value) (b .value))
 
 module _ (w : ℕ) (ww : Width w) (op : Operation) (a b r : Bits) where
   wide-sound : Best w (Image w (alu w op) a b) r → Sound 64 (Image w (alu w op) a b) r
@@ -124,7 +124,7 @@ module _ (w : ℕ) (ww : Width w) (a b : Bits) where
       }
 
 -- ---- every operation
-formula-formed : (w : ℕ) → Width w → (op : Operation) (a b : Bits) → Formed w op a b (formula w op a b)
+pub formula-formed : (w : ℕ) → Width w → (op : Operation) (a b : Bits) → Formed w op a b (formula w op a b)
 unfolding formula
 formula-formed w ww Add a b = best-formed w ww Add a b _ (add-best w a b)
 formula-formed w ww Sub a b = best-formed w ww Sub a b _ (sub-best w a b)

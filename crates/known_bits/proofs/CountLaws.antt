@@ -122,11 +122,11 @@ module _ (w v t n : ℕ) (some : 0 < w) (small : w ≤ 64) where
 
 -- ---- sound pairs
 module _ (w : ℕ) (ww : Width w) (a b : Bits) (ga : Well w a) (gb : Well w b) where
-  least-count : (y : ℕ) → Mem w b y → b .value % w ≤ y % w
+  pub least-count : (y : ℕ) → Mem w b y → b .value % w ≤ y % w
   least-count y m =
       subst (λ (n : ℕ). b .value % n ≤ y % n) (sym (ww .power)) (low-at-least-value w b gb y m (ww .places) (ww .enough))
 
-  greatest-count : (y : ℕ) → Mem w b y → y % w ≤ top b % w
+  pub greatest-count : (y : ℕ) → Mem w b y → y % w ≤ top b % w
   greatest-count y m =
       subst (λ (n : ℕ). y % n ≤ top b % n) (sym (ww .power)) (low-of-covered (top b) y (top-covers w b gb y m) (ww .places))
 

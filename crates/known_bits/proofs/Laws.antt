@@ -92,7 +92,7 @@ module _ (v w : ℕ) (h : v ≤ w) (p : Bits) (g : Well v p) where
 -- ---- one pair only
 module _ (w : ℕ) (p q : Bits) (gp : Well w p) (gq : Well w q) (into : (x : ℕ) → Mem w p x → Mem w q x) where
   -- what q knows, p knows
-  mask-le : (k : ℕ) → k < w → bit k (p .mask) ≤ bit k (q .mask)
+  pub mask-le : (k : ℕ) → k < w → bit k (p .mask) ≤ bit k (q .mask)
   mask-le k l =
       digit (bit k (q .mask)) (bit-lt k (q .mask))
       (λ z. digit (bit k (p .mask)) (bit-lt k (p .mask)) (λ y. omega arith)

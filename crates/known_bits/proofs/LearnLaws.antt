@@ -1,7 +1,7 @@
 -- What JSET not taken and a meet of two pairs leave: the answer has exactly the numbers that are left, so it is the best.
 use mathlib.Core.Path.{_≡_, refl, sym, ap, _∙_}
 use mathlib.Core.Bool.{Bool, true, false, not}
-use Prim.Native.Nat.{ℕ, _-_, _^_, _<_, min, max}
+use Prim.Native.Nat.{ℕ, _-_, _^_, _≤_, _<_, min, max}
 use native.Mathlib.Omega.{arith}
 use lib.Bits.{bitAnd, bitOr, bitXor, and-lt, or-lt, xor-lt}
 use lib.Dec.{eqb}
@@ -35,6 +35,13 @@ module _ (a : Bits) (s : ℕ) (hs : s < 2 ^ 64) (ga : Well 64 a) where
 
   no-shared-digit : (x : ℕ) → bitAnd x s ≡ 0 → (k : ℕ) → min (bit k x) (bit k s) ≡ 0
   no-shared-digit x z k = sym (bit-and k x s) ∙ ap (bit k) z ∙ bit-zero k
+
+  -- what shares no bit with s shares none with fewer
+  pub fewer-apart : (t : ℕ) → t < 2 ^ 64 → ((k : ℕ) → k < 64 → bit k t ≤ bit k s) → (x : ℕ) → Apart a s x → compare 64 comparison.Set x t ≡ false
+  fewer-apart t ht fewer x i =
+      shares x t (i .0 .fits) ht
+      ∙ ap not (eq-eqb (bitAnd x t) 0 (ext 64 (bitAnd x t) 0 (and-lt 64 x t (i .0 .fits) ht) (pow-pos 64)
+      (λ k l. omega (arith, bit-zero k, bit-and k x t, fewer k l, no-shared-digit x (no-shared-bit x i) k))))
 
   a-shared-known-bit-leaves-nothing : (bitAnd (a .value) s ≡ 0 → ⊥) → Learns (Apart a s) Nothing
   a-shared-known-bit-leaves-nothing n =

@@ -6,6 +6,11 @@ pub mod Computing
 pub mod CountLaws
 pub mod Covering
 pub mod Exact
+pub mod Inside
+pub mod InsideComputing
+pub mod InsideProducts
+pub mod InsideQuotients
+pub mod InsideShifts
 pub mod Joined
 pub mod Laws
 pub mod LearnLaws

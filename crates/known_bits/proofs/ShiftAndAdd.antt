@@ -39,7 +39,7 @@ placed-from w k i l = go (decLt i k)
         let e : i ≡ k + (i - k) = omega arith in
         inl (i - k, omega arith, λ x hx. bit-mod w i (x * 2 ^ k) l ∙ ap (λ (j : ℕ). bit j (x * 2 ^ k)) e ∙ bit-shl k (i - k) x)
 
-placed-best : (w k : ℕ) (b : Bits) → Well w b → Best w (Image1 w (λ x. (x * 2 ^ k) % 2 ^ w) b) (placed w k b)
+pub placed-best : (w k : ℕ) (b : Bits) → Well w b → Best w (Image1 w (λ x. (x * 2 ^ k) % 2 ^ w) b) (placed w k b)
 unfolding placed
 placed-best w k b gb = selected w b gb (λ x. (x * 2 ^ k) % 2 ^ w) (λ x h. mod-lt (x * 2 ^ k) (pow-pos w)) (placed-from w k)
 
@@ -99,7 +99,7 @@ module _ (w : ℕ) (a b : Bits) (ga : Well w a) (gb : Well w b) where
             m .4 ∙ digit-1-adds w k (m .0) (m .1) o,
           )
 
-  low-digits-sound : (n : ℕ) → n ≤ w → Sound w (LowProducts n) (lowDigits w a b n)
+  pub low-digits-sound : (n : ℕ) → n ≤ w → Sound w (LowProducts n) (lowDigits w a b n)
   unfolding lowDigits
   low-digits-sound zero l =
       let g = exact-well w (exactly 0) (pow-pos w) refl in

@@ -157,7 +157,7 @@ module _ (u v : Range) where
     pub no-lower-end : v .lo ≡ v .hi → u .lo ≡ v .lo → v .lo < t .lo
     pub no-upper-end : v .lo ≡ v .hi → u .hi ≡ v .lo → t .hi < v .lo
 
-  apart-leaves : Some (apartFrom u v) → ApartLeft (apartFrom u v)
+  pub apart-leaves : Some (apartFrom u v) → ApartLeft (apartFrom u v)
   unfolding apartFrom
   apart-leaves = go (ℕ-discrete (v .lo) (v .hi))
     where

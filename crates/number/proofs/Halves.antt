@@ -53,7 +53,7 @@ module _ (n : Number) where
   unfolding movedHalf
   moved-half-has x i = computed-sound 32 (inr refl) Add n (exact (2 ^ 31)) x (2 ^ 31) i (exact-in (2 ^ 31) (lit< tt))
 
-  moved-half-form : Well 64 (n .bits) → Well 64 (movedHalf n .bits)
+  pub moved-half-form : Well 64 (n .bits) → Well 64 (movedHalf n .bits)
   unfolding movedHalf
   moved-half-form g = computed-form 32 (inr refl) Add n (exact (2 ^ 31)) g (exact-in (2 ^ 31) (lit< tt) .form)
 
@@ -211,14 +211,15 @@ every-upper-half-is-left n′ n x y u i j =
 
 -- ---- neither is wider, neither is empty, and both keep the form
 -- l says no less of the low half of n than n does
-record LowOf (n l : Number) : Type 0 where
-  form : Well 64 (l .bits)
-  narrower : Narrower l (lowHalf n)
+pub record LowOf (n l : Number) : Type 0 where
+  pub form : Well 64 (l .bits)
+  pub narrower : Narrower l (lowHalf n)
+  pub some : Some (l .range)
 
 low-half-leaves : (n u : Number) → Well 64 (n .bits) → Well 64 (u .bits) → Left (equal (lowHalf n) u) (λ l l′. LowOf n l)
 low-half-leaves n u g h =
     left-map (equal (lowHalf n) u) (Sharper (lowHalf n) u) (λ l l′. LowOf n l)
-    (λ l l′ k. record { form = k .form-first (low-half-form n g); narrower = k .first })
+    (λ l l′ k. record { form = k .form-first (low-half-form n g); narrower = k .first; some = k .some-first })
     (equal-leaves (lowHalf n) u (low-half-form n g) h)
 
 module _ (d s : Number) (gd : Well 64 (d .bits)) (gs : Well 64 (s .bits)) where
@@ -230,7 +231,7 @@ module _ (d s : Number) (gd : Well 64 (d .bits)) (gs : Well 64 (s .bits)) where
       (low-half-leaves d (movedHalf u) gd (moved-half-form u (h .form-first (moved-half-form d gd))))
       (low-half-leaves s (movedHalf v) gs (moved-half-form v (h .form-second (moved-half-form s gs))))
 
-  low-halves-leave : (c : Comparison) (r : Refined) → Left r (Sharper (compared c d) (compared c s)) → Left (lowHalves c d s r) (λ l m. LowOf d l × LowOf s m)
+  pub low-halves-leave : (c : Comparison) (r : Refined) → Left r (Sharper (compared c d) (compared c s)) → Left (lowHalves c d s r) (λ l m. LowOf d l × LowOf s m)
   unfolding lowHalves compared
   low-halves-leave c r = leave (signed c)
     where
@@ -240,8 +241,8 @@ module _ (d s : Number) (gd : Well 64 (d .bits)) (gs : Well 64 (s .bits)) where
       leave false h =
           left-map r (Sharper (lowHalf d) (lowHalf s)) (λ l m. LowOf d l × LowOf s m)
           (λ l m k. (
-            record { form = k .form-first (low-half-form d gd); narrower = k .first },
-            record { form = k .form-second (low-half-form s gs); narrower = k .second },
+            record { form = k .form-first (low-half-form d gd); narrower = k .first; some = k .some-first },
+            record { form = k .form-second (low-half-form s gs); narrower = k .second; some = k .some-second },
           ))
           h
 

@@ -7,14 +7,14 @@ use lib.Pow.{pow-pos, pow-mono}
 use lib.Bits.{and-zero-r}
 use Rattle.word.proofs.Cut.{cut-below, cut-64}
 use Rattle.known_bits.specs.declared.Bits.{Bits}
-use Rattle.known_bits.specs.KnownBits.{Well, Best, Either}
+use Rattle.known_bits.specs.KnownBits.{Well, Sound, Best, Either}
 use Rattle.known_bits.specs.Pair.{exactly}
 use Rattle.known_bits.specs.Formula.{low, among}
 use Rattle.known_bits.proofs.Base.{covered-is-sound}
 use Rattle.known_bits.proofs.Covering.{ones-cover-all-below}
 use Rattle.known_bits.proofs.Joined.{joined-sound, joined-best}
 use Rattle.number.specs.declared.Number.{Number}
-use Rattle.number.specs.Meaning.{Within, In}
+use Rattle.number.specs.Meaning.{Within, In, Narrower}
 use Rattle.number.specs.Sharpen.{just, exact, loaded, joinedRange, joinedNumber}
 use Rattle.number.proofs.RangeLaws.{everything-has}
 use Rattle.number.proofs.Sharpening.{just-within}
@@ -41,7 +41,7 @@ loaded-in k h x l =
     record { form = s .well; bits = s .sound x l; range = everything-has (8 * k) x l }
 
 -- ---- a join
-low-of-words : (p : Bits) → p .value < 2 ^ 64 → p .mask < 2 ^ 64 → low 64 p ≡ p
+pub low-of-words : (p : Bits) → p .value < 2 ^ 64 → p .mask < 2 ^ 64 → low 64 p ≡ p
 unfolding low
 low-of-words p v m = λ i. record { value = cut-64 v i; mask = cut-64 m i }
 
@@ -56,11 +56,32 @@ module _ (a b : Number) where
       rw (low-of-words (a .bits) (ga .value-fits) (ga .mask-fits), low-of-words (b .bits) (gb .value-fits) (gb .mask-fits))
       (joined-best 64 (a .bits) (b .bits) ga gb)
 
-  joined-has : (x : ℕ) → Either (low 64 (a .bits)) (low 64 (b .bits)) x → Within (joinedNumber a b .range) x → In (joinedNumber a b) x
+  covering : Sound 64 (Either (low 64 (a .bits)) (low 64 (b .bits))) (joinedNumber a b .bits)
   unfolding joinedNumber low
-  joined-has x e i =
-      let s = joined-sound 64 (low 64 (a .bits)) (low 64 (b .bits)) (cut-below 64 _) (cut-below 64 _) (cut-below 64 _) (cut-below 64 _) in
-      record { form = s .well; bits = s .sound x e; range = i }
+  covering = joined-sound 64 (low 64 (a .bits)) (low 64 (b .bits)) (cut-below 64 _) (cut-below 64 _) (cut-below 64 _) (cut-below 64 _)
+
+  pub joined-form : Well 64 (joinedNumber a b .bits)
+  joined-form = covering .well
+
+  joined-has : (x : ℕ) → Either (low 64 (a .bits)) (low 64 (b .bits)) x → Within (joinedNumber a b .range) x → In (joinedNumber a b) x
+  joined-has x e i = record { form = joined-form; bits = covering .sound x e; range = i }
+
+  -- neither is narrower than itself for being joined, whatever the other is
+  pub joined-wider-left : Well 64 (a .bits) → Narrower a (joinedNumber a b)
+  unfolding joinedNumber joinedRange
+  joined-wider-left g =
+      record {
+        bits = λ x m. covering .sound x (inl (rw (low-of-words (a .bits) (g .value-fits) (g .mask-fits)) m));
+        range = record { low = omega arith; high = omega arith };
+      }
+
+  pub joined-wider-right : Well 64 (b .bits) → Narrower b (joinedNumber a b)
+  unfolding joinedNumber joinedRange
+  joined-wider-right g =
+      record {
+        bits = λ x m. covering .sound x (inr (rw (low-of-words (b .bits) (g .value-fits) (g .mask-fits)) m));
+        range = record { low = omega arith; high = omega arith };
+      }
 
   pub joined-covers-left : (x : ℕ) → In a x → In (joinedNumber a b) x
   unfolding joinedNumber joinedRange

@@ -3,6 +3,7 @@ pub mod AllDemanded
 pub mod Cases
 pub mod Compare
 pub mod CompareVectors
+pub mod ComputedInOrder
 pub mod Computing
 pub mod Equality
 pub mod Exclusion
@@ -10,6 +11,7 @@ pub mod HalfBits
 pub mod HalfOrders
 pub mod Halves
 pub mod HalvesAgainstKnown
+pub mod HalvesInOrder
 pub mod HalvesVectors
 pub mod HalvesWithin
 pub mod Known
@@ -19,12 +21,15 @@ pub mod Operands
 pub mod Orders
 pub mod Outcomes
 pub mod RangeLaws
+pub mod RangesInOrder
 pub mod Relations
 pub mod Results
 pub mod SharedBits
+pub mod SharpenedInOrder
 pub mod Sharpening
 pub mod Shorter
 pub mod Signs
 pub mod SumLaws
 pub mod Tightness
 pub mod Vectors
+pub mod WaysInOrder

@@ -49,7 +49,7 @@ none-shared-with-value q g x y hx m e =
     (λ k l. omega (arith, bit-zero k, bit-and k x (q .value), bit-and k x y, ap (bit k) e, mem-low 64 q g y m k l))
 
 -- where the greatest numbers of two pairs share no bit, no two numbers do
-none-shared-by-tops : (p q : Bits) → Well 64 p → Well 64 q → bitAnd (top p) (top q) ≡ 0 → (x y : ℕ) → Mem 64 p x → Mem 64 q y → bitAnd x y ≡ 0
+pub none-shared-by-tops : (p q : Bits) → Well 64 p → Well 64 q → bitAnd (top p) (top q) ≡ 0 → (x y : ℕ) → Mem 64 p x → Mem 64 q y → bitAnd x y ≡ 0
 none-shared-by-tops p q gp gq e x y mx my =
     ext 64 _ 0 (and-lt 64 x y (mx .fits) (my .fits)) (pow-pos 64)
     (λ k l. omega (
@@ -186,7 +186,7 @@ pub record OverlapLeft (d s d′ s′ : Number) : Type 0 where
   pub sharper : Sharper d s d′ s′
   pub some : ¬ (bitAnd (top (d .bits)) (top (s .bits)) ≡ 0)
 
-narrower-than-itself : (n : Number) → Narrower n n
+pub narrower-than-itself : (n : Number) → Narrower n n
 narrower-than-itself n = record { bits = λ x m. m; range = record { low = omega arith; high = omega arith } }
 
 overlappingOf-leaves : (d s : Number) → Left (overlappingOf d s) (OverlapLeft d s)

@@ -26,12 +26,14 @@ no-difference-is-equality : (u v : ℕ) → bitXor u v ≡ 0 → u ≡ v
 no-difference-is-equality u v e = omega (arith, xor-add-and u v, and-le-l u v, and-le-r u v)
 
 -- the ends agree from bit n on, so all between them do
+pub common-quotient : (l h x n : ℕ) → bitXor l h < 2 ^ n → l ≤ x → x ≤ h → x / 2 ^ n ≡ l / 2 ^ n
+common-quotient l h x n d p q =
+    let z : bitXor (l / 2 ^ n) (h / 2 ^ n) ≡ 0 = sym (xor-shr l h n) ∙ div-eq-of-lt d in
+    omega (arith, no-difference-is-equality (l / 2 ^ n) (h / 2 ^ n) z, shr-mono n p, shr-mono n q)
+
 pub common-lead : (l h x n k : ℕ) → bitXor l h < 2 ^ n → n ≤ k → l ≤ x → x ≤ h → bit k x ≡ bit k l
 unfolding bit
-common-lead l h x n k d g p q =
-    let z : bitXor (l / 2 ^ k) (h / 2 ^ k) ≡ 0 = sym (xor-shr l h k) ∙ div-eq-of-lt (le-trans d (pow-mono g)) in
-    ap (λ (m : ℕ). m % 2)
-    (omega (arith, no-difference-is-equality (l / 2 ^ k) (h / 2 ^ k) z, shr-mono k p, shr-mono k q))
+common-lead l h x n k d g p q = ap (λ (m : ℕ). m % 2) (common-quotient l h x k (le-trans d (pow-mono g)) p q)
 
 -- ---- the ones up to the highest bit of t
 up-to-fits : (t : ℕ) → upTo t < 2 ^ 64
@@ -54,11 +56,11 @@ zero-of-up-to-is-above t k h e = go (decLt t (2 ^ k))
 
 -- ---- what the pair learns
 module _ (p : Bits) (s : Range) (k : ℕ) where
-  learnt-mask : bit k (learnt p s .mask) ≡ min (bit k (p .mask)) (bit k (upTo (bitXor (s .lo) (s .hi))))
+  pub learnt-mask : bit k (learnt p s .mask) ≡ min (bit k (p .mask)) (bit k (upTo (bitXor (s .lo) (s .hi))))
   unfolding learnt stillUnknown
   learnt-mask = bit-and k (p .mask) (upTo (bitXor (s .lo) (s .hi)))
 
-  learnt-value : bit k (learnt p s .value) ≡ max (bit k (p .value)) (min (bit k (s .lo)) (bit k (p .mask) - bit k (learnt p s .mask)))
+  pub learnt-value : bit k (learnt p s .value) ≡ max (bit k (p .value)) (min (bit k (s .lo)) (bit k (p .mask) - bit k (learnt p s .mask)))
   unfolding learnt
   learnt-value =
       let fresh = bitXor (p .mask) (stillUnknown p s) in

@@ -55,6 +55,12 @@ abbrev pub Left : Refined → (Number → Number → Type 0) → Type 0
 Left Excluded P = Unit {0}
 Left (Possible d s) P = P d s
 
+-- where more is known a way leaves nothing, or it left something before, and each number is narrower
+abbrev pub LeavesNoMore : Refined → Refined → Type 0
+LeavesNoMore Excluded r = Unit {0}
+LeavesNoMore (Possible d′ s′) Excluded = ⊥
+LeavesNoMore (Possible d′ s′) (Possible d s) = Narrower d′ d × Narrower s′ s
+
 -- the numbers of a range that go a way out of their comparison with k
 abbrev pub Going : Comparison → Bool → Range → ℕ → ℕ → Type 0
 Going c way d k x = Within d x × (compare 64 c x k ≡ way)
