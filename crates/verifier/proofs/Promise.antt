@@ -13,12 +13,12 @@ use Rattle.analysis.proofs.Work.{work-linear}
 use Rattle.verifier.specs.declared.Answer.{Answer}
 use Rattle.verifier.specs.declared.Answer.the-variants.{Judgement, ScratchTooSmall}
 use Rattle.waiting.specs.Layout.{words}
-use Rattle.verifier.specs.Answered.{passesForm, answered, Promises}
+use Rattle.verifier.specs.Answered.{isOrderly, answered, Promises}
 
 pub the-answer-promises : (program : List ℕ) (R size : ℕ) (r : Answer) → r ≡ answered program R size → Promises program R r
 unfolding answered
 the-answer-promises program R size r e =
-    subst (Promises program R) (sym e) (go (passesForm program R && ltb size (words (length program / 8))))
+    subst (Promises program R) (sym e) (go (isOrderly program R && ltb size (words (length program / 8))))
   where
     go : (b : Bool) → Promises program R (cond b (ScratchTooSmall (words (length program / 8))) (Judgement (judged program R)))
     go true = record { yes-is-safe = λ h. absurd h; whole = tt; work-is-linear = omega arith }

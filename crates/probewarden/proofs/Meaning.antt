@@ -1,0 +1,180 @@
+-- What the code and the words of an answer of the verifier mean, by what the verifier promises of that answer.
+use mathlib.Core.Path.{_≡_, refl, sym, ap, _∙_, subst}
+use mathlib.Core.Bool.{Bool, true, false, cond, _&&_}
+use mathlib.Core.Logic.{_↔_}
+use mathlib.Core.List.{List, [], _∷_}
+use Prim.Native.Nat.{ℕ, _+_, _*_, _/_, _≤_, _<_}
+use lib.ListN.{length, drop, getD, List·getD-append}
+use lib.Dec.{ltb}
+use native.Mathlib.Omega.{arith}
+use borrow.Author.Tests.{le-ltb, ltb-true, ltb-false}
+use Rattle.analysis.specs.declared.Reason.{Reason}
+use Rattle.analysis.specs.declared.Finding.{Finding}
+use Rattle.analysis.specs.declared.Finding.the-variants.{Accepted, Refused}
+use Rattle.analysis.specs.declared.Judged.{Judged}
+use Rattle.analysis.specs.Form.{Orderly, HasForm}
+use Rattle.analysis.specs.Judged.{reasonNumber, onValues, judged}
+use Rattle.analysis.specs.Promise.{Allows, LowestRefusal, Whole}
+use Rattle.analysis.specs.Safe.{Safe}
+use Rattle.waiting.specs.Layout.{words}
+use Rattle.verifier.specs.declared.Answer.{Answer}
+use Rattle.verifier.specs.declared.Answer.the-variants.{Judgement, ScratchTooSmall}
+use Rattle.verifier.specs.Answered.{IsYes, workOf, Promises, isOrderly, answered}
+use Rattle.verifier.proofs.Memory.{too-small-iff}
+use Rattle.probewarden.specs.Encoding.{Said, findingSaid, answerSaid, headed}
+use Rattle.probewarden.specs.Exported.{Says, Taken, Means}
+use Rattle.probewarden.proofs.Injective.{a-reason-has-its-own-number}
+
+abbrev count : List ℕ → ℕ
+count program = length program / 8
+
+-- ---- what is said of a finding and of an answer
+
+said-zero-is-yes : (n : ℕ) (f : Finding) (work : ℕ) → findingSaid n f work .code ≡ 0 → f ≡ Accepted
+unfolding findingSaid
+said-zero-is-yes n Accepted work e = refl
+said-zero-is-yes n (Refused reason place) work e = absurd (omega arith)
+
+said-one-is-no : (n : ℕ) (f : Finding) (work : ℕ) (reason : Reason) (place : ℕ) → findingSaid n f work .code ≡ 1
+    → getD (findingSaid n f work .words) 0 0 ≡ reasonNumber reason → getD (findingSaid n f work .words) 1 0 ≡ place
+    → f ≡ Refused reason place
+unfolding findingSaid
+said-one-is-no n Accepted work reason place e p q = absurd (omega arith)
+said-one-is-no n (Refused r x) work reason place e p q = rw (a-reason-has-its-own-number r reason p, q) refl
+
+a-finding-is-not-two : (n : ℕ) (f : Finding) (work : ℕ) → findingSaid n f work .code ≡ 2 → ⊥
+unfolding findingSaid
+a-finding-is-not-two n Accepted work e = omega arith
+a-finding-is-not-two n (Refused reason place) work e = omega arith
+
+finding-words : (n : ℕ) (f : Finding) (work : ℕ)
+    → (length (findingSaid n f work .words) ≡ 4) × (getD (findingSaid n f work .words) 2 0 ≡ work)
+unfolding findingSaid
+finding-words n Accepted work = (refl, refl)
+finding-words n (Refused reason place) work = (refl, refl)
+
+answer-words : (n : ℕ) (a : Answer) → (length (answerSaid n a .words) ≡ 4) × (getD (answerSaid n a .words) 2 0 ≡ workOf a)
+unfolding answerSaid
+answer-words n (Judgement j) = finding-words n (j .finding) (j .work)
+answer-words n (ScratchTooSmall w) = (refl, refl)
+
+pub only-a-yes-is-zero : (n : ℕ) (a : Answer) → answerSaid n a .code ≡ 0 → IsYes a
+unfolding answerSaid
+only-a-yes-is-zero n (Judgement j) e = said-zero-is-yes n (j .finding) (j .work) e
+only-a-yes-is-zero n (ScratchTooSmall w) e = absurd (omega arith)
+
+a-finding-says-its-bound : (n : ℕ) (f : Finding) (work : ℕ) → findingSaid n f work .code ≡ 0 → getD (findingSaid n f work .words) 3 0 ≡ n
+unfolding findingSaid
+a-finding-says-its-bound n Accepted work e = refl
+a-finding-says-its-bound n (Refused reason place) work e = absurd (omega arith)
+
+a-yes-says-its-bound : (n : ℕ) (a : Answer) → answerSaid n a .code ≡ 0 → getD (answerSaid n a .words) 3 0 ≡ n
+unfolding answerSaid
+a-yes-says-its-bound n (Judgement j) e = a-finding-says-its-bound n (j .finding) (j .work) e
+a-yes-says-its-bound n (ScratchTooSmall w) e = absurd (omega arith)
+
+-- ---- the answer by the memory that is lent
+
+abbrev IsJudgement : Answer → Type 0
+IsJudgement (Judgement j) = Unit {0}
+IsJudgement (ScratchTooSmall w) = ⊥
+
+judged-where-enough : (program : List ℕ) (R size : ℕ) → words (count program) ≤ size → answered program R size ≡ Judgement (judged program R)
+unfolding answered
+judged-where-enough program R size h = rw (le-ltb size (words (count program)) h) (go (isOrderly program R))
+  where
+    go : (b : Bool) → cond (b && false) (ScratchTooSmall (words (count program))) (Judgement (judged program R)) ≡ Judgement (judged program R)
+    go true = refl
+    go false = refl
+
+module _ (program : List ℕ) (R size : ℕ) (a : Answer) (is : a ≡ answered program R size) (promises : Promises program R a) where
+  whole-where-enough : words (count program) ≤ size → Whole program R (judged program R .finding)
+  whole-where-enough h = subst (Promises program R) (is ∙ judged-where-enough program R size h) promises .whole
+
+  judged-only-where-enough : (j : Judged) → a ≡ Judgement j → Orderly program R → words (count program) ≤ size
+  judged-only-where-enough j e o = go (ltb size (words (count program))) refl
+    where
+      go : (b : Bool) → ltb size (words (count program)) ≡ b → words (count program) ≤ size
+      go true p = absurd (subst IsJudgement (sym e ∙ is ∙ too-small-iff program R size _ .1 (o, refl, ltb-true _ _ p)) tt)
+      go false p = ltb-false _ _ p
+
+  yes-said : (answerSaid (count program) a .code ≡ 0)
+      ↔ ((words (count program) ≤ size) × HasForm program R × ((j : ℕ) → j < count program → Allows program R j))
+  unfolding answerSaid findingSaid
+  yes-said = (go a refl, back)
+    where
+      go : (b : Answer) → a ≡ b → answerSaid (count program) b .code ≡ 0
+          → (words (count program) ≤ size) × HasForm program R × ((j : ℕ) → j < count program → Allows program R j)
+      go (Judgement j) e h =
+          let w : Whole program R (j .finding) = subst (Promises program R) e promises .whole in
+          let (form, allow) = w .yes .0 (said-zero-is-yes (count program) (j .finding) (j .work) h) in
+          (judged-only-where-enough j e (form .orderly), form, allow)
+      go (ScratchTooSmall w) e h = absurd (omega arith)
+
+      back : (words (count program) ≤ size) × HasForm program R × ((j : ℕ) → j < count program → Allows program R j)
+          → answerSaid (count program) a .code ≡ 0
+      back h = rw (is, judged-where-enough program R size (h .0), whole-where-enough (h .0) .yes .1 (h .1, h .2)) refl
+
+  no-said : (reason : Reason) (place : ℕ) → onValues reason ≡ true
+      → ((answerSaid (count program) a .code ≡ 1) × (getD (answerSaid (count program) a .words) 0 0 ≡ reasonNumber reason)
+      × (getD (answerSaid (count program) a .words) 1 0 ≡ place))
+      ↔ ((words (count program) ≤ size) × HasForm program R × LowestRefusal program R reason place)
+  unfolding answerSaid findingSaid
+  no-said reason place v = (go a refl, back)
+    where
+      go : (b : Answer) → a ≡ b
+          → (answerSaid (count program) b .code ≡ 1) × (getD (answerSaid (count program) b .words) 0 0 ≡ reasonNumber reason)
+          × (getD (answerSaid (count program) b .words) 1 0 ≡ place)
+          → (words (count program) ≤ size) × HasForm program R × LowestRefusal program R reason place
+      go (Judgement j) e h =
+          let w : Whole program R (j .finding) = subst (Promises program R) e promises .whole in
+          let told = said-one-is-no (count program) (j .finding) (j .work) reason place (h .0) (h .1) (h .2) in
+          let (form, lowest) = w .no reason place v .0 told in
+          (judged-only-where-enough j e (form .orderly), form, lowest)
+      go (ScratchTooSmall w) e h = absurd (omega arith)
+
+      back : (words (count program) ≤ size) × HasForm program R × LowestRefusal program R reason place
+          → (answerSaid (count program) a .code ≡ 1) × (getD (answerSaid (count program) a .words) 0 0 ≡ reasonNumber reason)
+          × (getD (answerSaid (count program) a .words) 1 0 ≡ place)
+      back h =
+          rw (is, judged-where-enough program R size (h .0), whole-where-enough (h .0) .no reason place v .1 (h .1, h .2)) (refl, refl, refl)
+
+  too-small-said : (answerSaid (count program) a .code ≡ 2) ↔ (Orderly program R × (size < words (count program)))
+  unfolding answerSaid
+  too-small-said = (go a refl, λ h. rw (is, too-small-iff program R size _ .1 (h .0, refl, h .1)) refl)
+    where
+      go : (b : Answer) → a ≡ b → answerSaid (count program) b .code ≡ 2 → Orderly program R × (size < words (count program))
+      go (Judgement j) e h = absurd (a-finding-is-not-two (count program) (j .finding) (j .work) h)
+      go (ScratchTooSmall w) e h = let t = too-small-iff program R size w .0 (sym is ∙ e) in (t .0, t .2)
+
+  pub an-answer-means : (before after : List ℕ) (rules code : ℕ) → Taken rules before → Says (answerSaid (count program) a) before after code
+      → Means program R rules size before after code
+  unfolding headed
+  an-answer-means before after rules code taken says = record {
+    yes = (
+      λ e. let t = yes-said .0 (sym (says .code-said) ∙ e) in (taken, t .0, t .1, t .2),
+      λ h. says .code-said ∙ yes-said .1 (h .1, h .2, h .3),
+    );
+    no = λ reason place v. (
+      λ e. let t = no-said reason place v .0 (sym (says .code-said) ∙ e .0, sym first ∙ e .1, sym second ∙ e .2) in (taken, t .0, t .1, t .2),
+      λ h. let t = no-said reason place v .1 (h .1, h .2, h .3) in (says .code-said ∙ t .0, first ∙ t .1, second ∙ t .2),
+    );
+    too-small = (
+      λ e. let t = too-small-said .0 (sym (says .code-said) ∙ e) in (taken, t .0, t .1),
+      λ h. says .code-said ∙ too-small-said .1 (h .1, h .2),
+    );
+    yes-is-safe = λ e. promises .yes-is-safe (only-a-yes-is-zero (count program) a (sym (says .code-said) ∙ e));
+    yes-has-bound = λ e. word 3 (omega arith) ∙ a-yes-says-its-bound (count program) a (sym (says .code-said) ∙ e);
+    work-is-linear = λ t. rw (word 2 (omega arith), answer-words (count program) a .1) (promises .work-is-linear);
+  }
+    where
+      word : (k : ℕ) → k < 4 → getD after k 0 ≡ getD (answerSaid (count program) a .words) k 0
+      word k l =
+          let said : List ℕ = answerSaid (count program) a .words in
+          rw (says .words-said) (List·getD-append said (drop (length said) before) 0 k (rw (answer-words (count program) a .0) l))
+
+      first : getD after 0 0 ≡ getD (answerSaid (count program) a .words) 0 0
+      first = word 0 (omega arith)
+
+      second : getD after 1 0 ≡ getD (answerSaid (count program) a .words) 1 0
+      second = word 1 (omega arith)
