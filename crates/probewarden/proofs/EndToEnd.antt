@@ -1,9 +1,9 @@
 -- From a yes to the verdict: what a run of an accepted program comes to, by the definitions, and as the two C functions tell it.
 use mathlib.Core.Path.{_≡_, refl, sym, ap, _∙_, subst}
-use mathlib.Core.Bool.{Bool, true, false, cond}
+use mathlib.Core.Bool.{cond}
 use mathlib.Core.Logic.{_↔_, _⊎_, inl, inr, ⊎-elim}
-use mathlib.Core.List.{List, [], _∷_}
-use Prim.Native.Nat.{ℕ, _/_, _≤_, _<_}
+use mathlib.Core.List.{List}
+use Prim.Native.Nat.{ℕ, _≤_}
 use lib.ListN.{length, getD}
 use lib.Dec.{leb}
 use native.Mathlib.Omega.{arith}
@@ -12,13 +12,12 @@ use Rattle.machine.specs.declared.outcome.Outcome.{Outcome}
 use Rattle.machine.specs.declared.outcome.Outcome.the-variants.{Verdict, Fault, Budget, Refused}
 use Rattle.machine.specs.Machine.{Done, interpreted}
 use Rattle.machine.proofs.Refusals.{refused-broken, broken-refused}
-use Rattle.analysis.specs.declared.Finding.{Finding}
 use Rattle.analysis.specs.declared.Finding.the-variants.{Accepted}
 use Rattle.analysis.specs.Judged.{judged}
 use Rattle.analysis.specs.Safe.{Bytes, Answer, Safe, Allowed}
 use Rattle.analysis.proofs.Theorem.{accepted-safe}
 use Rattle.analysis.proofs.Worlds.{not-refused-iff-allowed}
-use Rattle.probewarden.specs.Encoding.{outcomeSaid, headed}
+use Rattle.probewarden.specs.Encoding.{outcomeSaid}
 use Rattle.probewarden.specs.Exported.{Verified, Interpreted}
 
 -- an accepted program comes to one verdict after one number of steps, at most n, which `answer` has for every layout and every budget, or

@@ -1,9 +1,9 @@
 -- What the code and the words of an answer of the verifier mean, by what the verifier promises of that answer.
-use mathlib.Core.Path.{_≡_, refl, sym, ap, _∙_, subst}
+use mathlib.Core.Path.{_≡_, refl, sym, _∙_, subst}
 use mathlib.Core.Bool.{Bool, true, false, cond, _&&_}
 use mathlib.Core.Logic.{_↔_}
-use mathlib.Core.List.{List, [], _∷_}
-use Prim.Native.Nat.{ℕ, _+_, _*_, _/_, _≤_, _<_}
+use mathlib.Core.List.{List}
+use Prim.Native.Nat.{ℕ, _/_, _≤_, _<_}
 use lib.ListN.{length, drop, getD, List·getD-append}
 use lib.Dec.{ltb}
 use native.Mathlib.Omega.{arith}
@@ -15,14 +15,13 @@ use Rattle.analysis.specs.declared.Judged.{Judged}
 use Rattle.analysis.specs.Form.{Orderly, HasForm}
 use Rattle.analysis.specs.Judged.{reasonNumber, onValues, judged}
 use Rattle.analysis.specs.Promise.{Allows, LowestRefusal, Whole}
-use Rattle.analysis.specs.Safe.{Safe}
 use Rattle.waiting.specs.Layout.{words}
 use Rattle.verifier.specs.declared.Answer.{Answer}
 use Rattle.verifier.specs.declared.Answer.the-variants.{Judgement, ScratchTooSmall}
 use Rattle.verifier.specs.Answered.{IsYes, workOf, Promises, isOrderly, answered}
 use Rattle.verifier.proofs.Memory.{too-small-iff}
-use Rattle.probewarden.specs.Encoding.{Said, findingSaid, answerSaid, headed}
-use Rattle.probewarden.specs.Exported.{Says, Taken, Means}
+use Rattle.probewarden.specs.Encoding.{findingSaid, answerSaid, headed}
+use Rattle.probewarden.specs.Exported.{Says, Taken, Tells, Means}
 use Rattle.probewarden.proofs.Injective.{a-reason-has-its-own-number}
 
 abbrev count : List ℕ → ℕ
@@ -98,44 +97,49 @@ module _ (program : List ℕ) (R size : ℕ) (a : Answer) (is : a ≡ answered p
       go true p = absurd (subst IsJudgement (sym e ∙ is ∙ too-small-iff program R size _ .1 (o, refl, ltb-true _ _ p)) tt)
       go false p = ltb-false _ _ p
 
+  whole-said : (f : Finding) → Tells f (answerSaid (count program) a .code) (answerSaid (count program) a .words) → Whole program R f
+  unfolding answerSaid
+  whole-said = go a refl
+    where
+      go : (b : Answer) → a ≡ b → (f : Finding) → Tells f (answerSaid (count program) b .code) (answerSaid (count program) b .words)
+          → Whole program R f
+      go (Judgement j) e Accepted h =
+          subst (Whole program R) (said-zero-is-yes (count program) (j .finding) (j .work) h) (subst (Promises program R) e promises .whole)
+      go (Judgement j) e (Refused reason place) h =
+          subst (Whole program R) (said-one-is-no (count program) (j .finding) (j .work) reason place (h .0) (h .1) (h .2))
+          (subst (Promises program R) e promises .whole)
+      go (ScratchTooSmall w) e Accepted h = absurd (omega arith)
+      go (ScratchTooSmall w) e (Refused reason place) h = absurd (omega (arith, h .0))
+
   yes-said : (answerSaid (count program) a .code ≡ 0)
       ↔ ((words (count program) ≤ size) × HasForm program R × ((j : ℕ) → j < count program → Allows program R j))
   unfolding answerSaid findingSaid
-  yes-said = (go a refl, back)
+  yes-said = (λ h. go a refl h (whole-said Accepted h .yes .0 refl), back)
     where
       go : (b : Answer) → a ≡ b → answerSaid (count program) b .code ≡ 0
+          → HasForm program R × ((j : ℕ) → j < count program → Allows program R j)
           → (words (count program) ≤ size) × HasForm program R × ((j : ℕ) → j < count program → Allows program R j)
-      go (Judgement j) e h =
-          let w : Whole program R (j .finding) = subst (Promises program R) e promises .whole in
-          let (form, allow) = w .yes .0 (said-zero-is-yes (count program) (j .finding) (j .work) h) in
-          (judged-only-where-enough j e (form .orderly), form, allow)
-      go (ScratchTooSmall w) e h = absurd (omega arith)
+      go (Judgement j) e h (form, allow) = (judged-only-where-enough j e (form .orderly), form, allow)
+      go (ScratchTooSmall w) e h r = absurd (omega arith)
 
       back : (words (count program) ≤ size) × HasForm program R × ((j : ℕ) → j < count program → Allows program R j)
           → answerSaid (count program) a .code ≡ 0
       back h = rw (is, judged-where-enough program R size (h .0), whole-where-enough (h .0) .yes .1 (h .1, h .2)) refl
 
   no-said : (reason : Reason) (place : ℕ) → onValues reason ≡ true
-      → ((answerSaid (count program) a .code ≡ 1) × (getD (answerSaid (count program) a .words) 0 0 ≡ reasonNumber reason)
-      × (getD (answerSaid (count program) a .words) 1 0 ≡ place))
+      → Tells (Refused reason place) (answerSaid (count program) a .code) (answerSaid (count program) a .words)
       ↔ ((words (count program) ≤ size) × HasForm program R × LowestRefusal program R reason place)
   unfolding answerSaid findingSaid
-  no-said reason place v = (go a refl, back)
+  no-said reason place v = (λ h. go a refl h (whole-said (Refused reason place) h .no reason place v .0 refl), back)
     where
-      go : (b : Answer) → a ≡ b
-          → (answerSaid (count program) b .code ≡ 1) × (getD (answerSaid (count program) b .words) 0 0 ≡ reasonNumber reason)
-          × (getD (answerSaid (count program) b .words) 1 0 ≡ place)
+      go : (b : Answer) → a ≡ b → Tells (Refused reason place) (answerSaid (count program) b .code) (answerSaid (count program) b .words)
+          → HasForm program R × LowestRefusal program R reason place
           → (words (count program) ≤ size) × HasForm program R × LowestRefusal program R reason place
-      go (Judgement j) e h =
-          let w : Whole program R (j .finding) = subst (Promises program R) e promises .whole in
-          let told = said-one-is-no (count program) (j .finding) (j .work) reason place (h .0) (h .1) (h .2) in
-          let (form, lowest) = w .no reason place v .0 told in
-          (judged-only-where-enough j e (form .orderly), form, lowest)
-      go (ScratchTooSmall w) e h = absurd (omega arith)
+      go (Judgement j) e h (form, lowest) = (judged-only-where-enough j e (form .orderly), form, lowest)
+      go (ScratchTooSmall w) e h r = absurd (omega (arith, h .0))
 
       back : (words (count program) ≤ size) × HasForm program R × LowestRefusal program R reason place
-          → (answerSaid (count program) a .code ≡ 1) × (getD (answerSaid (count program) a .words) 0 0 ≡ reasonNumber reason)
-          × (getD (answerSaid (count program) a .words) 1 0 ≡ place)
+          → Tells (Refused reason place) (answerSaid (count program) a .code) (answerSaid (count program) a .words)
       back h =
           rw (is, judged-where-enough program R size (h .0), whole-where-enough (h .0) .no reason place v .1 (h .1, h .2)) (refl, refl, refl)
 
@@ -151,6 +155,7 @@ module _ (program : List ℕ) (R size : ℕ) (a : Answer) (is : a ≡ answered p
       → Means program R rules size before after code
   unfolding headed
   an-answer-means before after rules code taken says = record {
+    whole = told-whole;
     yes = (
       λ e. let t = yes-said .0 (sym (says .code-said) ∙ e) in (taken, t .0, t .1, t .2),
       λ h. says .code-said ∙ yes-said .1 (h .1, h .2, h .3),
@@ -178,3 +183,8 @@ module _ (program : List ℕ) (R size : ℕ) (a : Answer) (is : a ≡ answered p
 
       second : getD after 1 0 ≡ getD (answerSaid (count program) a .words) 1 0
       second = word 1 (omega arith)
+
+      told-whole : (f : Finding) → Tells f code after → Whole program R f
+      told-whole Accepted h = whole-said Accepted (sym (says .code-said) ∙ h)
+      told-whole (Refused reason place) h =
+          whole-said (Refused reason place) (sym (says .code-said) ∙ h .0, sym first ∙ h .1, sym second ∙ h .2)

@@ -1,16 +1,18 @@
 -- What a C function promises, from what the routine that it calls promises.
-use mathlib.Core.Path.{_≡_, refl, sym, ap, _∙_}
-use mathlib.Core.List.{List, [], _∷_, _++_}
-use Prim.Native.Nat.{ℕ, suc, _+_, _/_, _≤_, _<_}
-use lib.ListN.{length, drop, set, getD}
+use mathlib.Core.Path.{_≡_, refl, sym, ap}
+use mathlib.Core.List.{List, [], _∷_}
+use Prim.Native.Nat.{ℕ, _/_, _≤_, _<_}
+use lib.ListN.{length, set}
 use native.Mathlib.Omega.{arith}
 use Rattle.machine.specs.declared.outcome.Outcome.{Outcome}
 use Rattle.machine.specs.Machine.{Done, interpreted}
+use Rattle.analysis.specs.declared.Finding.{Finding}
+use Rattle.analysis.specs.declared.Finding.the-variants.{Accepted, Refused}
 use Rattle.verifier.specs.declared.Answer.{Answer}
 use Rattle.verifier.specs.Answered.{Promises, Untouched, answered}
 use Rattle.verifier.proofs.Answers.{unchanged}
 use Rattle.probewarden.specs.Encoding.{Said, answerSaid, outcomeSaid, headed}
-use Rattle.probewarden.specs.Exported.{Says, Taken, Means, Verified, Interpreted}
+use Rattle.probewarden.specs.Exported.{Says, Taken, Tells, Means, Verified, Interpreted}
 use Rattle.probewarden.proofs.Meaning.{an-answer-means}
 
 -- ---- words in place of the first three or four
@@ -36,10 +38,15 @@ is-said said before after code words is stored = rw is (record { code-said = ref
 
 -- ---- verify
 
+no-finding-told : (f : Finding) (code : ℕ) (after : List ℕ) → 2 < code → Tells f code after → ⊥
+no-finding-told Accepted code after high h = omega arith
+no-finding-told (Refused reason place) code after high h = omega (arith, h .0)
+
 -- a code above 2 is no answer of the verifier's, and means nothing
 not-taken-means-nothing : (program : List ℕ) (R rules size : ℕ) (before : List ℕ) (code : ℕ) → (Taken rules before → ⊥) → 2 < code
     → Means program R rules size before before code
 not-taken-means-nothing program R rules size before code other high = record {
+  whole = λ f h. absurd (no-finding-told f code before high h);
   yes = (λ e. absurd (omega arith), λ h. absurd (other (h .0)));
   no = λ reason place v. (λ e. absurd (omega (arith, e .0)), λ h. absurd (other (h .0)));
   too-small = (λ e. absurd (omega arith), λ h. absurd (other (h .0)));

@@ -9,9 +9,11 @@ use lib.ListN.{length, getD}
 use lib.Dec.{leb}
 use Rattle.machine.specs.Machine.{interpreted}
 use Rattle.analysis.specs.declared.Reason.{Reason}
+use Rattle.analysis.specs.declared.Finding.{Finding}
+use Rattle.analysis.specs.declared.Finding.the-variants.{Accepted, Refused}
 use Rattle.analysis.specs.Form.{Orderly, HasForm}
 use Rattle.analysis.specs.Judged.{reasonNumber, onValues}
-use Rattle.analysis.specs.Promise.{Allows, LowestRefusal}
+use Rattle.analysis.specs.Promise.{Allows, LowestRefusal, Whole}
 use Rattle.analysis.specs.Safe.{Safe}
 use Rattle.waiting.specs.Layout.{words}
 use Rattle.verifier.specs.Answered.{answered, Untouched}
@@ -32,15 +34,20 @@ pub record Says (said : Said) (before after : List ℕ) (code : ℕ) : Type 0 wh
 abbrev pub Taken : ℕ → List ℕ → Type 0
 Taken rules before = (4 ≤ length before) × (rules ≡ 0)
 
--- what a code and the words of the answer mean: yes if and only if, in enough scratch memory, the form is good and no index refuses what
--- flows there; no, for values, if and only if this is the lowest index that does. The bound of a yes is the number of instructions, which
--- Safe says is enough for every run
+-- the code and the words of the answer tell this finding
+abbrev pub Tells : Finding → ℕ → List ℕ → Type 0
+Tells Accepted code after = code ≡ 0
+Tells (Refused reason place) code after = (code ≡ 1) × (getD after 0 0 ≡ reasonNumber reason) × (getD after 1 0 ≡ place)
+
+-- what they mean: a finding that is told is the one that `Promise` asks for. So it is yes if and only if, in enough scratch memory, the form
+-- is good and no index refuses what flows there; no, for values, if and only if this is the lowest index that does. The bound of a yes is
+-- the number of instructions, which Safe says is enough for every run
 pub record Means (program : List ℕ) (R rules size : ℕ) (before after : List ℕ) (code : ℕ) : Type 0 where
+  pub whole : (f : Finding) → Tells f code after → Whole program R f
   pub yes : (code ≡ 0)
       ↔ (Taken rules before × (words (length program / 8) ≤ size) × HasForm program R
       × ((j : ℕ) → j < length program / 8 → Allows program R j))
-  pub no : (reason : Reason) (place : ℕ) → onValues reason ≡ true
-      → ((code ≡ 1) × (getD after 0 0 ≡ reasonNumber reason) × (getD after 1 0 ≡ place))
+  pub no : (reason : Reason) (place : ℕ) → onValues reason ≡ true → Tells (Refused reason place) code after
       ↔ (Taken rules before × (words (length program / 8) ≤ size) × HasForm program R × LowestRefusal program R reason place)
   pub too-small : (code ≡ 2) ↔ (Taken rules before × Orderly program R × (size < words (length program / 8)))
   pub yes-is-safe : code ≡ 0 → Safe program R

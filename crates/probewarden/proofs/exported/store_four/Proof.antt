@@ -1,6 +1,4 @@
 -- `store_four`: three words are set, and a fourth.
-use mathlib.Core.Path.{_∙_, ap}
-use lib.ListN.{set}
 use Rattle.probewarden.proofs.Saying.{a-fourth-word-stored}
 use borrow.Author.Needs.{needs}
 use Rattle.probewarden.proofs.exported.store_four.Statement.{statement}
