@@ -62,7 +62,7 @@ static int refused(size_t program_len, size_t record_len, uint64_t record_at, ui
 
 uint64_t checking_run(const uint8_t *program, size_t program_len, const uint8_t *record, size_t record_len, uint64_t record_at,
                       uint64_t stack_at, uint8_t *stack, size_t stack_len, uint64_t budget, uint64_t *answer, size_t answer_words) {
-    if (answer_words < PW_ANSWER_WORDS) return PW_NO_ROOM;
+    if (answer_words < PW_RUN_WORDS) return PW_NO_ROOM;
     if (refused(program_len, record_len, record_at, stack_at, stack_len)) return PW_NOT_RUN;
     uint64_t r[11] = {[1] = record_at, [10] = stack_at + PW_STACK_BYTES};
     uint64_t pc = 0, steps = 0, cause, count = program_len / PW_INSTRUCTION_BYTES;

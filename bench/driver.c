@@ -36,7 +36,7 @@ static struct answer run(int side, const struct program *p, uint64_t budget) {
 
 static struct answer verify(const struct program *p) {
     struct answer a = {0};
-    a.code = pw_verify(p->code, p->size, p->record_size, scratch, PW_SCRATCH_WORDS_MAX, a.words, PW_ANSWER_WORDS);
+    a.code = pw_verify(p->code, p->size, p->record_size, 0, 0, scratch, PW_SCRATCH_WORDS_MAX, a.words, PW_ANSWER_WORDS);
     return a;
 }
 

@@ -41,14 +41,14 @@ static const uint8_t unchecked_index[] = {
 /* A unit has this once, whatever it verifies; it is not needed to run. */
 static uint64_t scratch[PW_SCRATCH_WORDS_MAX];
 
-/* Takes a probe, or says why not. */
-static int take(const char *name, const uint8_t *program, size_t size) {
+/* Takes a probe, or says why not. The steps that are enough for every run of it, or 0. */
+static uint64_t take(const char *name, const uint8_t *program, size_t size) {
     uint64_t answer[PW_ANSWER_WORDS];
     char why[32];
     uint64_t code = pw_check(program, size, RECORD_BYTES, scratch, PW_SCRATCH_WORDS_MAX, answer);
     if (code == PW_ACCEPTED) {
-        printf("%s: accepted, at most %u steps in each slot\n", name, (unsigned)(size / PW_INSTRUCTION_BYTES));
-        return 1;
+        printf("%s: accepted, at most %u steps in each slot\n", name, (unsigned)answer[PW_BOUND]);
+        return answer[PW_BOUND];
     }
     if (code == PW_REFUSED) {
         pw_reason_name(answer[PW_REASON], why, sizeof why);
@@ -70,16 +70,17 @@ static void fill(uint8_t *record, unsigned slot) {
 int main(void) {
     uint8_t record[RECORD_BYTES];
     uint8_t stack[PW_STACK_BYTES];
-    uint64_t answer[PW_ANSWER_WORDS];
+    uint64_t answer[PW_ANSWER_WORDS], bound;
     unsigned histogram[5] = {0, 0, 0, 0, 0};
     unsigned slot, class;
 
     take("unchecked_index", unchecked_index, sizeof unchecked_index);
-    if (!take("rssi_class", rssi_class, sizeof rssi_class))
+    bound = take("rssi_class", rssi_class, sizeof rssi_class);
+    if (bound == 0)
         return 1;
     for (slot = 0; slot < SLOTS; slot++) {
         fill(record, slot);
-        if (pw_run_probe(rssi_class, sizeof rssi_class, record, sizeof record, stack, PW_MAX_INSTRUCTIONS, answer) != PW_VERDICT)
+        if (pw_run_probe(rssi_class, sizeof rssi_class, record, sizeof record, stack, bound, answer) != PW_VERDICT)
             return 1; /* the verifier's yes says that this does not happen */
         if (answer[PW_VALUE] < 5)
             histogram[answer[PW_VALUE]]++;

@@ -2,12 +2,13 @@
  *
  * A probe is a program of 1 to 4,096 instructions of 8 bytes. It reads a record of at most 1,024 bytes and a stack of 512 bytes of its own,
  * and ends with a verdict, a 64-bit number. pw_verify says whether a program may be taken for records of a given length. Its yes is a
- * theorem: an accepted program never faults, ends after at most as many steps as it has instructions, and gives the same verdict wherever
- * the record and the stack lie, so that it cannot report an address. pw_run runs a program and stops it at whatever a fault would be.
+ * theorem: an accepted program never faults, ends after at most answer[PW_BOUND] steps, as many as it has instructions, and gives the same
+ * verdict wherever the record and the stack lie, so that it cannot report an address. pw_run runs a program and stops it at whatever a
+ * fault would be.
  *
  *     uint64_t answer[PW_ANSWER_WORDS];
  *     if (pw_check(program, size, sizeof record, scratch, PW_SCRATCH_WORDS_MAX, answer) == PW_ACCEPTED)
- *         if (pw_run_probe(program, size, record, sizeof record, stack, PW_MAX_INSTRUCTIONS, answer) == PW_VERDICT)
+ *         if (pw_run_probe(program, size, record, sizeof record, stack, answer[PW_BOUND], answer) == PW_VERDICT)
  *             use(answer[PW_VALUE]);
  *
  * Instructions. Programs are eBPF as clang makes it for -mcpu=v1, v2 and v3: arithmetic and comparisons on 64 and 32 bits, loads, stores, jumps
@@ -35,28 +36,31 @@ extern "C" {
 #define PW_MAX_INSTRUCTIONS 4096
 #define PW_MAX_RECORD 1024         /* bytes */
 #define PW_STACK_BYTES 512         /* a stack has exactly so many */
-#define PW_ANSWER_WORDS 3          /* an answer has at least so many words */
+#define PW_ANSWER_WORDS 4          /* an answer of so many words has room for what pw_verify says, and for what pw_run says */
+#define PW_RUN_WORDS 3             /* pw_run needs no more than so many, and changes no other */
 #define PW_SCRATCH_WORDS_MAX 229376 /* pw_scratch_words(PW_MAX_INSTRUCTIONS): enough for every program, 1.75 MiB */
 
 /* ---- codes that the functions return */
 
-#define PW_ACCEPTED 0          /* pw_verify: answer[PW_WORK] */
-#define PW_REFUSED 1           /* pw_verify: answer[PW_REASON], answer[PW_PLACE], answer[PW_WORK] */
-#define PW_SCRATCH_TOO_SMALL 2 /* pw_verify: answer[PW_WORDS] words are enough; the other words are 0 */
+#define PW_ACCEPTED 0          /* pw_verify: answer[PW_WORK], answer[PW_BOUND]; the other words are 0 */
+#define PW_REFUSED 1           /* pw_verify: answer[PW_REASON], answer[PW_PLACE], answer[PW_WORK]; answer[PW_BOUND] is 0 */
+#define PW_SCRATCH_TOO_SMALL 2 /* pw_verify: answer[PW_WORDS] words are enough; the other words are 0, and scratch is as it was */
 
 #define PW_VERDICT 0      /* pw_run: answer[PW_VALUE], answer[PW_STEPS] */
 #define PW_FAULT 1        /* pw_run: answer[PW_FAULT_NUMBER], answer[PW_STEPS] before it, answer[PW_FAULT_AT] */
 #define PW_BUDGET_SPENT 2 /* pw_run: answer[PW_STEPS], which is the budget */
 #define PW_NOT_RUN 3      /* pw_run: a length or an address is not allowed; answer and stack are as they were */
 
-#define PW_NO_ROOM 9     /* both: the answer has fewer than three words; nothing was done, and all is as it was */
+#define PW_NO_ROOM 9     /* both: the answer has fewer words than are needed; nothing was done, and all is as it was */
 #define PW_MISALIGNED 10 /* pw_check, pw_run_probe: words at an address that is no multiple of theirs; nothing was done */
+#define PW_BAD_RULES 11  /* pw_verify: there are no such rules; nothing was done, and all is as it was */
 
 /* ---- words of an answer */
 
 #define PW_REASON 0
 #define PW_PLACE 1 /* the index of the instruction; 0 for reasons 1 and 2 */
 #define PW_WORK 2  /* instructions looked at and values of registers copied or joined: at most 25 for each instruction, and 11 */
+#define PW_BOUND 3 /* the steps that are enough for every run of the program: as many as it has instructions */
 #define PW_WORDS 0
 
 #define PW_VALUE 0
@@ -91,15 +95,18 @@ extern "C" {
  * PW_MAX_INSTRUCTIONS: such a program is refused without scratch memory. */
 uint64_t pw_scratch_words(uint64_t instructions);
 
-/* Whether a program may be taken for records of record_len bytes: PW_ACCEPTED, PW_REFUSED, PW_SCRATCH_TOO_SMALL or PW_NO_ROOM. Any bytes
- * are answered. Scratch memory is too small only where the program passes the tests on form (reasons 1 to 6 and 12). Only scratch and the first
- * three words of answer are changed. */
-uint64_t pw_verify(const uint8_t *program, size_t program_len, uint64_t record_len, uint64_t *scratch, size_t scratch_words,
-                   uint64_t *answer, size_t answer_words);
+/* Whether a program may be taken for records of record_len bytes: PW_ACCEPTED, PW_REFUSED, PW_SCRATCH_TOO_SMALL, PW_NO_ROOM or
+ * PW_BAD_RULES. Any bytes are answered. The rules are 0: jumps go forward only. Their bits are kept for more, and any other number is
+ * answered PW_BAD_RULES. The limit is for loops; with rules 0 it is not looked at. The order of the tests: PW_NO_ROOM, where the answer has
+ * fewer than PW_ANSWER_WORDS words; PW_BAD_RULES; the reasons 1 to 6; PW_SCRATCH_TOO_SMALL; the other reasons. Scratch is as it was unless
+ * the tests for the reasons 1 to 6 are passed and it is large enough. Only scratch and the first four words of answer are changed. */
+uint64_t pw_verify(const uint8_t *program, size_t program_len, uint64_t record_len, uint64_t rules, uint64_t limit, uint64_t *scratch,
+                   size_t scratch_words, uint64_t *answer, size_t answer_words);
 
 /* Runs a program for at most `budget` steps: PW_VERDICT, PW_FAULT, PW_BUDGET_SPENT, PW_NOT_RUN or PW_NO_ROOM. record_at and stack_at are the
  * addresses that the program is told; nothing is read or written there. Both must lie between 0x10000 and 2^47, and the two regions must
- * not overlap (an empty record overlaps nothing). The stack has 512 bytes; a run clears it first, and leaves in it what the program stored. */
+ * not overlap (an empty record overlaps nothing). The stack has 512 bytes; a run clears it first, and leaves in it what the program stored.
+ * PW_NO_ROOM: the answer has fewer than PW_RUN_WORDS words. */
 uint64_t pw_run(const uint8_t *program, size_t program_len, const uint8_t *record, size_t record_len, uint64_t record_at,
                 uint64_t stack_at, uint8_t *stack, size_t stack_len, uint64_t budget, uint64_t *answer, size_t answer_words);
 
@@ -120,21 +127,21 @@ static inline int pw_aligned(const uint64_t *words) {
     return (uintptr_t)words % sizeof(uint64_t) == 0;
 }
 
-/* pw_verify for an answer of three words, which tests how the words lie. */
+/* pw_verify by the rules 0 for an answer of PW_ANSWER_WORDS words, which tests how the words lie. */
 static inline uint64_t pw_check(const uint8_t *program, size_t program_len, size_t record_len, uint64_t *scratch, size_t scratch_words,
                                 uint64_t *answer) {
     if (!pw_aligned(scratch) || !pw_aligned(answer))
         return PW_MISALIGNED;
-    return pw_verify(program, program_len, (uint64_t)record_len, scratch, scratch_words, answer, PW_ANSWER_WORDS);
+    return pw_verify(program, program_len, (uint64_t)record_len, 0, 0, scratch, scratch_words, answer, PW_ANSWER_WORDS);
 }
 
-/* pw_run with virtual addresses, a stack of 512 bytes and an answer of three words, which tests how the words lie. */
+/* pw_run with virtual addresses, a stack of 512 bytes and an answer of PW_RUN_WORDS words or more, which tests how the words lie. */
 static inline uint64_t pw_run_probe(const uint8_t *program, size_t program_len, const uint8_t *record, size_t record_len,
                                     uint8_t *stack, uint64_t budget, uint64_t *answer) {
     if (!pw_aligned(answer))
         return PW_MISALIGNED;
     return pw_run(program, program_len, record, record_len, PW_RECORD_AT, PW_STACK_AT, stack, PW_STACK_BYTES, budget, answer,
-                  PW_ANSWER_WORDS);
+                  PW_RUN_WORDS);
 }
 
 #ifdef __cplusplus

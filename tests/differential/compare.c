@@ -8,7 +8,7 @@
 #include <stdlib.h>
 #include <string.h>
 
-enum { GUARD = 16, GUARD_WORDS = 2, ANSWER_ROOM = 5, RUNS_PER_PROGRAM = 6, DIFFERENCES_SHOWN = 3 };
+enum { GUARD = 16, GUARD_WORDS = 2, ANSWER_ROOM = 6, RUNS_PER_PROGRAM = 6, DIFFERENCES_SHOWN = 3 };
 /* 95 % of the 131,421 that were accepted when this was written. */
 enum { RECORDS_TRIED = 3, LAYOUTS_TRIED = 6, OLD_STACKS = 3, ACCEPTED_AIM = 124850 };
 
@@ -73,7 +73,7 @@ static uint64_t old_answer(size_t word) {
     return 0x1122334455667788 + word;
 }
 
-/* Words beyond the third are lent too, and must stay as they were. */
+/* Words beyond those that are written are lent too, and must stay as they were. */
 static void lend_answer(size_t words) {
     put_guards(answer_room, 8 * words);
     for (size_t k = 0; k < words; k++)
@@ -114,14 +114,19 @@ struct verification {
     uint64_t code, words[PW_ANSWER_WORDS];
 };
 
+/* A limit is not looked at where the rules are 0. */
+static uint64_t some_limit(const struct trial *t) {
+    return t->number % 2 == 0 ? 0 : UINT64_MAX - t->number;
+}
+
 static void verify(struct trial *t, uint64_t record_len, size_t scratch_words, struct verification *v) {
     size_t answer_words = PW_ANSWER_WORDS + below(&t->source, 3);
     int whole;
     memcpy(program_copy, t->program.bytes, t->program.length);
     put_guards(scratch_room, 8 * scratch_words);
     lend_answer(answer_words);
-    v->code = pw_verify(program_copy, t->program.length, record_len, scratch_words == 0 && one_in(&t->source, 2) ? NULL : scratch,
-                        scratch_words, answer, answer_words);
+    v->code = pw_verify(program_copy, t->program.length, record_len, 0, some_limit(t),
+                        scratch_words == 0 && one_in(&t->source, 2) ? NULL : scratch, scratch_words, answer, answer_words);
     memcpy(v->words, answer, sizeof v->words);
     t->tally->checks[GUARDS]++;
     whole = guards_stand(scratch_room, 8 * scratch_words) && guards_stand(answer_room, 8 * answer_words) &&
@@ -138,14 +143,14 @@ static void show_verification(struct trial *t, enum property property, uint64_t 
     if (!is_shown(t, property))
         return;
     print_head(t, property, "pw_verify");
-    printf(": R %llu, scratch words %llu; reference: reason %llu place %llu; library: code %llu words %llu %llu %llu", (wide)record_len,
-           (wide)scratch_words, (wide)form.reason, (wide)form.place, (wide)v->code, (wide)v->words[0], (wide)v->words[1],
-           (wide)v->words[2]);
+    printf(": R %llu, scratch words %llu; reference: reason %llu place %llu; library: code %llu words %llu %llu %llu %llu",
+           (wide)record_len, (wide)scratch_words, (wide)form.reason, (wide)form.place, (wide)v->code, (wide)v->words[0],
+           (wide)v->words[1], (wide)v->words[2], (wide)v->words[3]);
     print_tail(t);
 }
 
 static int is_refused_alike(const struct verification *v, struct ref_form form) {
-    return v->code == PW_REFUSED && v->words[PW_REASON] == form.reason && v->words[PW_PLACE] == form.place;
+    return v->code == PW_REFUSED && v->words[PW_REASON] == form.reason && v->words[PW_PLACE] == form.place && v->words[PW_BOUND] == 0;
 }
 
 /* With scratch memory of full size: reasons 1 to 6 and 12 and their place are exact; else accepted, or refused for the values. */
@@ -155,18 +160,20 @@ static int is_proper_answer(const struct verification *v, struct ref_form form, 
     if (v->words[PW_WORK] > 25 * n + 11)
         return 0;
     if (v->code == PW_ACCEPTED)
-        return v->words[PW_REASON] == 0 && v->words[PW_PLACE] == 0;
-    return v->code == PW_REFUSED && v->words[PW_REASON] >= 7 && v->words[PW_REASON] <= 9 && v->words[PW_PLACE] < n;
+        return v->words[PW_REASON] == 0 && v->words[PW_PLACE] == 0 && v->words[PW_BOUND] == n;
+    return v->code == PW_REFUSED && v->words[PW_REASON] >= 7 && v->words[PW_REASON] <= 9 && v->words[PW_PLACE] < n &&
+           v->words[PW_BOUND] == 0;
 }
 
+/* The tests for the reasons 1 to 6 come before scratch memory is looked at, that for dead code after. */
 static void try_short_scratch(struct trial *t, uint64_t record_len, size_t words, uint64_t needed, struct ref_form form) {
     struct verification v;
     int proper;
     verify(t, record_len, words, &v);
-    if (form.reason != 0)
+    if (form.reason != 0 && form.reason != 12)
         proper = is_refused_alike(&v, form);
     else
-        proper = v.code == PW_SCRATCH_TOO_SMALL && v.words[PW_WORDS] == needed && v.words[1] == 0 && v.words[2] == 0;
+        proper = v.code == PW_SCRATCH_TOO_SMALL && v.words[PW_WORDS] == needed && v.words[1] == 0 && v.words[2] == 0 && v.words[3] == 0;
     t->tally->checks[SCRATCH]++;
     if (!proper)
         show_verification(t, SCRATCH, record_len, words, form, &v);
@@ -331,7 +338,7 @@ static void show_run(struct trial *t, enum property property, const char *what, 
 
 /* One run of the library beside the finished one of the reference; `old` is what the stack held before. */
 static void try_run(struct trial *t, const struct ref_place *p, uint64_t budget, const struct ref_run *r, const uint8_t *old) {
-    size_t answer_words = PW_ANSWER_WORDS + below(&t->source, 3);
+    size_t answer_words = PW_RUN_WORDS + below(&t->source, 3);
     enum property property = r->outcome == REF_REFUSED ? REFUSAL : SAME_RUN;
     uint64_t code;
     int agrees, whole;
@@ -348,7 +355,7 @@ static void try_run(struct trial *t, const struct ref_place *p, uint64_t budget,
     if (!agrees)
         show_run(t, property, "pw_run answers otherwise", p, budget, r, code);
     whole = guards_stand(stack_room, p->stack_len) && guards_stand(answer_room, 8 * answer_words) &&
-            answer_untouched(PW_ANSWER_WORDS, answer_words) && memcmp(record_copy, record_room, p->record_len) == 0 &&
+            answer_untouched(PW_RUN_WORDS, answer_words) && memcmp(record_copy, record_room, p->record_len) == 0 &&
             memcmp(program_copy, t->program.bytes, t->program.length) == 0;
     t->tally->checks[GUARDS]++;
     if (!whole)
@@ -451,7 +458,7 @@ static void try_first_bytes(struct trial *t, uint64_t record_len) {
 }
 
 static int is_accepted(struct trial *t, uint64_t record_len) {
-    return pw_verify(program_copy, t->program.length, record_len, scratch, t->program.length / 8 * 56, answer, PW_ANSWER_WORDS) ==
+    return pw_verify(program_copy, t->program.length, record_len, 0, 0, scratch, t->program.length / 8 * 56, answer, PW_ANSWER_WORDS) ==
            PW_ACCEPTED;
 }
 

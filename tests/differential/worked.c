@@ -204,10 +204,11 @@ static void try_worked_verification(const struct worked_verification *w) {
     uint8_t program[MOST_BYTES];
     uint64_t answer[PW_ANSWER_WORDS];
     size_t length = read_program(w->program, program);
-    uint64_t code = pw_verify(program, length, w->record_len, scratch, length / 8 * 56, answer, PW_ANSWER_WORDS);
+    uint64_t code = pw_verify(program, length, w->record_len, 0, 0, scratch, length / 8 * 56, answer, PW_ANSWER_WORDS);
     struct ref_form form = ref_form(program, length, w->record_len);
     int reason_fits = w->reason == ANY ? answer[PW_REASON] >= 7 && answer[PW_REASON] <= 9 : answer[PW_REASON] == w->reason;
-    count(code == (w->reason == 0 ? PW_ACCEPTED : PW_REFUSED) && reason_fits && answer[PW_PLACE] == w->place, w->name,
+    int bound_fits = answer[PW_BOUND] == (w->reason == 0 ? length / 8 : 0);
+    count(code == (w->reason == 0 ? PW_ACCEPTED : PW_REFUSED) && reason_fits && answer[PW_PLACE] == w->place && bound_fits, w->name,
           "verification by the library");
     count(w->reason > 6 && w->reason != 12 ? form.reason == 0 : form.reason == w->reason && form.place == w->place, w->name, "form by the reference");
 }
@@ -216,7 +217,7 @@ static void try_worked_verification(const struct worked_verification *w) {
 
 static uint64_t library_says(const uint8_t *program, size_t length, uint64_t *place) {
     uint64_t answer[PW_ANSWER_WORDS];
-    uint64_t code = pw_verify(program, length, 0, scratch, length / 8 * 56, answer, PW_ANSWER_WORDS);
+    uint64_t code = pw_verify(program, length, 0, 0, 0, scratch, length / 8 * 56, answer, PW_ANSWER_WORDS);
     uint64_t reason = code == PW_REFUSED && (answer[PW_REASON] <= 6 || answer[PW_REASON] == 12) ? answer[PW_REASON] : 0;
     *place = reason == 0 ? 0 : answer[PW_PLACE];
     return reason;

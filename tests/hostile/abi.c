@@ -32,7 +32,7 @@ static void end(void) {
 
 /* ---- lent buffers; what lies around and in them is known, so that a change is seen */
 
-enum { GUARD = 16, PROGRAM_BYTES = 32776, STACK_ROOM = 513, ANSWER_ROOM = 4, NAME_ROOM = 64 };
+enum { GUARD = 16, PROGRAM_BYTES = 32776, STACK_ROOM = 513, ANSWER_ROOM = 5, NAME_ROOM = 64 };
 
 static uint8_t program[PROGRAM_BYTES];
 static uint8_t record[PW_MAX_RECORD + 8];
@@ -76,6 +76,11 @@ static int scratch_guards_stand(size_t words) {
     return is_painted(scratch_room, 0, GUARD) && is_painted(scratch_room, GUARD + 8 * words, GUARD + 8 * words + GUARD);
 }
 
+/* Guards and, where they were painted, the words themselves. */
+static int scratch_is_as_it_was(size_t words) {
+    return scratch_guards_stand(words) && (words >= 1000 || is_painted(scratch_room, 0, GUARD + 8 * words));
+}
+
 static int stack_is_as_it_was(void) {
     return is_painted(stack_room, 0, sizeof stack_room);
 }
@@ -84,9 +89,9 @@ static int answer_is_as_it_was(void) {
     return is_painted(answer_room, 0, sizeof answer_room);
 }
 
-/* Only the first three words may have changed. */
-static int answer_is_in_bounds(void) {
-    return is_painted(answer_room, 0, GUARD) && is_painted(answer_room, GUARD + 8 * PW_ANSWER_WORDS, sizeof answer_room);
+/* Only the first words may have changed, as many as are given. */
+static int answer_is_in_bounds(size_t words) {
+    return is_painted(answer_room, 0, GUARD) && is_painted(answer_room, GUARD + 8 * words, sizeof answer_room);
 }
 
 static int stack_is_in_bounds(void) {
@@ -150,14 +155,15 @@ static void test_scratch_words(void) {
 static int verify_answer_is_right(uint64_t code, uint64_t length, uint64_t record_len, size_t scratch_words) {
     uint64_t n = length / 8;
     if (!is_length(length))
-        return code == PW_REFUSED && answer[PW_REASON] == 1 && answer[PW_PLACE] == 0;
+        return code == PW_REFUSED && answer[PW_REASON] == 1 && answer[PW_PLACE] == 0 && answer[PW_BOUND] == 0;
     if (record_len > PW_MAX_RECORD)
-        return code == PW_REFUSED && answer[PW_REASON] == 2 && answer[PW_PLACE] == 0;
+        return code == PW_REFUSED && answer[PW_REASON] == 2 && answer[PW_PLACE] == 0 && answer[PW_BOUND] == 0;
     if (!is_whole(length)) /* r0 = 5 alone: the last instruction is no exit */
-        return code == PW_REFUSED && answer[PW_REASON] == 6 && answer[PW_PLACE] == 0;
+        return code == PW_REFUSED && answer[PW_REASON] == 6 && answer[PW_PLACE] == 0 && answer[PW_BOUND] == 0;
     if (scratch_words < 56 * n)
-        return code == PW_SCRATCH_TOO_SMALL && answer[PW_WORDS] == 56 * n && answer[1] == 0 && answer[2] == 0;
-    return code == PW_ACCEPTED && answer[PW_WORK] <= 25 * n + 11;
+        return code == PW_SCRATCH_TOO_SMALL && answer[PW_WORDS] == 56 * n && answer[1] == 0 && answer[2] == 0 && answer[3] == 0;
+    return code == PW_ACCEPTED && answer[PW_REASON] == 0 && answer[PW_PLACE] == 0 && answer[PW_WORK] <= 25 * n + 11 &&
+           answer[PW_BOUND] == n;
 }
 
 static void verify_once(uint64_t length, uint64_t record_len, size_t scratch_words, size_t answer_words) {
@@ -165,13 +171,13 @@ static void verify_once(uint64_t length, uint64_t record_len, size_t scratch_wor
     int good;
     paint_small();
     paint_scratch(scratch_words);
-    code = pw_verify(program, (size_t)length, record_len, scratch, scratch_words, answer, answer_words);
+    code = pw_verify(program, (size_t)length, record_len, 0, UINT64_MAX, scratch, scratch_words, answer, answer_words);
     if (answer_words < PW_ANSWER_WORDS)
-        good = code == PW_NO_ROOM && answer_is_as_it_was() &&
-               (scratch_words >= 1000 || is_painted(scratch_room, 0, GUARD + 8 * scratch_words));
+        good = code == PW_NO_ROOM && answer_is_as_it_was();
     else
-        good = verify_answer_is_right(code, length, record_len, scratch_words) && answer_is_in_bounds();
-    expect(good && scratch_guards_stand(scratch_words), length, record_len, scratch_words, answer_words);
+        good = verify_answer_is_right(code, length, record_len, scratch_words) && answer_is_in_bounds(PW_ANSWER_WORDS);
+    good = good && (code == PW_ACCEPTED ? scratch_guards_stand(scratch_words) : scratch_is_as_it_was(scratch_words));
+    expect(good, length, record_len, scratch_words, answer_words);
 }
 
 static void test_verify_lengths(void) {
@@ -196,31 +202,55 @@ static void test_verify_nulls(void) {
     begin("pw_verify with null and 0");
     write_program(16);
     paint_small();
-    code = pw_verify(NULL, 0, 0, NULL, 0, answer, PW_ANSWER_WORDS);
+    code = pw_verify(NULL, 0, 0, 0, 0, NULL, 0, answer, PW_ANSWER_WORDS);
     expect(code == PW_REFUSED && answer[PW_REASON] == 1 && answer[PW_PLACE] == 0, code, 0, 0, 0);
-    code = pw_verify(program, 16, 0, NULL, 0, answer, PW_ANSWER_WORDS);
-    expect(code == PW_SCRATCH_TOO_SMALL && answer[0] == 112 && answer[1] == 0 && answer[2] == 0, code, 1, 0, 0);
-    expect(pw_verify(program, 16, 0, scratch, 112, NULL, 0) == PW_NO_ROOM, 2, 0, 0, 0);
-    expect(pw_verify(NULL, 0, UINT64_MAX, NULL, 0, NULL, 0) == PW_NO_ROOM, 3, 0, 0, 0);
+    code = pw_verify(program, 16, 0, 0, 0, NULL, 0, answer, PW_ANSWER_WORDS);
+    expect(code == PW_SCRATCH_TOO_SMALL && answer[0] == 112 && answer[1] == 0 && answer[2] == 0 && answer[3] == 0, code, 1, 0, 0);
+    expect(pw_verify(program, 16, 0, 0, 0, scratch, 112, NULL, 0) == PW_NO_ROOM, 2, 0, 0, 0);
+    expect(pw_verify(NULL, 0, UINT64_MAX, UINT64_MAX, UINT64_MAX, NULL, 0, NULL, 0) == PW_NO_ROOM, 3, 0, 0, 0);
     expect(pw_check(NULL, 0, 0, NULL, 0, answer) == PW_REFUSED, 4, 0, 0, 0);
     end();
 }
 
-/* A program that fails a test on form is refused without scratch memory, and its place may be the very last. */
+/* Nothing is done by rules that are not known, whatever the limit is; that the answer has no room is told first. */
+static void test_rules(void) {
+    static const uint64_t numbers[] = {1, 2, 3, 255, 256, (uint64_t)1 << 32, (uint64_t)1 << 63, UINT64_MAX};
+    begin("pw_verify by rules other than 0: PW_BAD_RULES, and nothing done");
+    for (size_t k = 0; k < program_length_count; k++) {
+        uint64_t length = program_lengths[k];
+        write_program(length);
+        for (size_t j = 0; j < COUNT(numbers); j++)
+            for (size_t words = 0; words <= ANSWER_ROOM; words++) {
+                uint64_t code;
+                paint_small();
+                paint_scratch(300);
+                code = pw_verify(program, (size_t)length, 64, numbers[j], numbers[words], scratch, 300, answer, words);
+                expect(code == (words < PW_ANSWER_WORDS ? PW_NO_ROOM : PW_BAD_RULES) && answer_is_as_it_was() && scratch_is_as_it_was(300),
+                       length, numbers[j], words, code);
+            }
+    }
+    end();
+}
+
+/* A program that fails one of the tests 1 to 6 is refused without scratch memory, and its place may be the very last. That the memory is
+ * too small is told before the test for dead code is made. */
 static void test_form_without_scratch(void) {
     uint64_t code;
     begin("a program of 4,096 instructions whose last fails the form, without scratch memory");
     write_program(0);
-    code = pw_verify(program, 32768, 1024, NULL, 0, answer, PW_ANSWER_WORDS);
+    code = pw_verify(program, 32768, 1024, 0, 0, NULL, 0, answer, PW_ANSWER_WORDS);
     expect(code == PW_REFUSED && answer[PW_REASON] == 6 && answer[PW_PLACE] == 4095, code, answer[0], answer[1], 0);
     program[32760] = 0x85;
-    code = pw_verify(program, 32768, 1024, NULL, 0, answer, PW_ANSWER_WORDS);
+    code = pw_verify(program, 32768, 1024, 0, 0, NULL, 0, answer, PW_ANSWER_WORDS);
     expect(code == PW_REFUSED && answer[PW_REASON] == 3 && answer[PW_PLACE] == 4095, code, answer[0], answer[1], 1);
     program[32760] = program[32752] = 0x95;
     memset(program + 32753, 0, 7);
     memset(program + 32761, 0, 7);
-    code = pw_verify(program, 32768, 1024, NULL, 0, answer, PW_ANSWER_WORDS);
-    expect(code == PW_REFUSED && answer[PW_REASON] == 12 && answer[PW_PLACE] == 4095, code, answer[0], answer[1], 2);
+    code = pw_verify(program, 32768, 1024, 0, 0, NULL, 0, answer, PW_ANSWER_WORDS);
+    expect(code == PW_SCRATCH_TOO_SMALL && answer[PW_WORDS] == PW_SCRATCH_WORDS_MAX, code, answer[0], answer[1], 2);
+    code = pw_verify(program, 32768, 1024, 0, 0, scratch, PW_SCRATCH_WORDS_MAX, answer, PW_ANSWER_WORDS);
+    expect(code == PW_REFUSED && answer[PW_REASON] == 12 && answer[PW_PLACE] == 4095 && answer[PW_BOUND] == 0, code, answer[0], answer[1],
+           3);
     end();
 }
 
@@ -238,7 +268,7 @@ static void test_check_alignment(void) {
             paint_scratch(300);
             code = pw_check(program, 40, 64, shifted_scratch, 280, shifted_answer);
             if (shift == 0 && other == 0)
-                expect(code == PW_ACCEPTED && answer_is_in_bounds() && scratch_guards_stand(300), 0, 0, code, 0);
+                expect(code == PW_ACCEPTED && answer_is_in_bounds(PW_ANSWER_WORDS) && scratch_guards_stand(300), 0, 0, code, 0);
             else
                 expect(code == PW_MISALIGNED && answer_is_as_it_was() && is_painted(scratch_room, 0, GUARD + 8 * 300), shift, other,
                        code, 0);
@@ -259,7 +289,7 @@ static void test_check_lengths(void) {
                 paint_small();
                 paint_scratch(full - less);
                 code = pw_check(program, (size_t)length, (size_t)record_lengths[j], scratch, full - less, answer);
-                expect(verify_answer_is_right(code, length, record_lengths[j], full - less) && answer_is_in_bounds() &&
+                expect(verify_answer_is_right(code, length, record_lengths[j], full - less) && answer_is_in_bounds(PW_ANSWER_WORDS) &&
                            scratch_guards_stand(full - less),
                        length, record_lengths[j], full - less, code);
             }
@@ -290,12 +320,12 @@ static void run_once(uint64_t length, uint64_t record_len, size_t stack_len, siz
     paint_small();
     code = pw_run(program, (size_t)length, record, (size_t)record_len, PW_RECORD_AT, PW_STACK_AT, stack, stack_len, UINT64_MAX, answer,
                   answer_words);
-    if (answer_words < PW_ANSWER_WORDS)
+    if (answer_words < PW_RUN_WORDS)
         good = code == PW_NO_ROOM && answer_is_as_it_was() && stack_is_as_it_was();
     else if (!is_length(length) || record_len > PW_MAX_RECORD || stack_len != PW_STACK_BYTES)
         good = code == PW_NOT_RUN && answer_is_as_it_was() && stack_is_as_it_was();
     else
-        good = run_answer_is_right(code, length) && answer_is_in_bounds() && stack_is_in_bounds() && stack_is_clear();
+        good = run_answer_is_right(code, length) && answer_is_in_bounds(PW_RUN_WORDS) && stack_is_in_bounds() && stack_is_clear();
     expect(good, length, record_len, stack_len, answer_words);
 }
 
@@ -327,7 +357,7 @@ static void test_run_addresses(void) {
                 paint_small();
                 code = pw_run(program, 16, record, (size_t)r, p, s, stack, PW_STACK_BYTES, 4096, answer, PW_ANSWER_WORDS);
                 if (fair)
-                    expect(run_answer_is_right(code, 16) && answer_is_in_bounds() && stack_is_in_bounds(), p, s, r, code);
+                    expect(run_answer_is_right(code, 16) && answer_is_in_bounds(PW_RUN_WORDS) && stack_is_in_bounds(), p, s, r, code);
                 else
                     expect(code == PW_NOT_RUN && answer_is_as_it_was() && stack_is_as_it_was(), p, s, r, code);
             }
@@ -348,7 +378,7 @@ static void test_run_nulls(void) {
     code = pw_run(NULL, 0, NULL, 0, 0, 0, NULL, 0, 0, NULL, 0);
     expect(code == PW_NO_ROOM, code, 3, 0, 0);
     code = pw_run(program, 16, NULL, 0, PW_RECORD_AT, PW_STACK_AT, stack, PW_STACK_BYTES, 4096, answer, PW_ANSWER_WORDS);
-    expect(run_answer_is_right(code, 16) && answer_is_in_bounds() && stack_is_in_bounds(), code, 4, 0, 0);
+    expect(run_answer_is_right(code, 16) && answer_is_in_bounds(PW_RUN_WORDS) && stack_is_in_bounds(), code, 4, 0, 0);
     end();
 }
 
@@ -364,7 +394,7 @@ static void test_run_budgets(void) {
             expect(code == PW_BUDGET_SPENT && answer[PW_STEPS] == budgets[k], budgets[k], code, answer[PW_STEPS], 0);
         else
             expect(run_answer_is_right(code, 32768), budgets[k], code, answer[PW_STEPS], 0);
-        expect(answer_is_in_bounds() && stack_is_in_bounds() && stack_is_clear(), budgets[k], code, 0, 1);
+        expect(answer_is_in_bounds(PW_RUN_WORDS) && stack_is_in_bounds() && stack_is_clear(), budgets[k], code, 0, 1);
     }
     end();
 }
@@ -398,7 +428,7 @@ static void test_run_probe(void) {
                 else if (!is_length(length) || record_lengths[j] > PW_MAX_RECORD)
                     expect(code == PW_NOT_RUN && answer_is_as_it_was() && stack_is_as_it_was(), length, record_lengths[j], 0, code);
                 else
-                    expect(run_answer_is_right(code, length) && answer_is_in_bounds() && stack_is_in_bounds(), length,
+                    expect(run_answer_is_right(code, length) && answer_is_in_bounds(PW_RUN_WORDS) && stack_is_in_bounds(), length,
                            record_lengths[j], 0, code);
             }
     }
@@ -458,6 +488,7 @@ int main(void) {
     test_scratch_words();
     test_verify_lengths();
     test_verify_nulls();
+    test_rules();
     test_form_without_scratch();
     test_check_alignment();
     test_check_lengths();

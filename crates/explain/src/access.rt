@@ -26,22 +26,11 @@ use analysis::Value;
 use calculator::operation::alu64;
 use calculator::sharpen::exactly;
 use machine::instruction::Instruction;
-use machine::instruction::Size;
+use machine::memory::byte_count;
 use number::Number;
 use verifier::inspect::Known;
 use verifier::inspect::register_at;
 use word::Operation;
-
-fn bytes(size: Size) -> u64
-    ensures { λ r. ⌜ r ≤ 8 ⌝ }
-{
-    match size {
-        Size::One => 1,
-        Size::Two => 2,
-        Size::Four => 4,
-        Size::Eight => 8,
-    }
-}
 
 // How far the bytes reach, where the last offset is no negative number, and how many bytes the record has.
 fn record_limit(hi: u64, count: u64, record_len: u64) -> Clause
@@ -157,13 +146,18 @@ pub fn access(
             dst: _,
             src,
             off,
-        } => load(bytes(size), value_at(scratch, n, i, src), off, record_len),
+        } => load(
+            byte_count(size) as u64,
+            value_at(scratch, n, i, src),
+            off,
+            record_len,
+        ),
         Instruction::Store {
             size,
             dst,
             off,
             operand: _,
-        } => store(bytes(size), value_at(scratch, n, i, dst), off),
+        } => store(byte_count(size) as u64, value_at(scratch, n, i, dst), off),
         _ => nothing(),
     }
 }

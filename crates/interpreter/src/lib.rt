@@ -3,13 +3,14 @@
 ghost use mathlib.Core.Path.{_≡_};
 ghost use Prim.Native.Nat.{ℕ, _+_, _≤_, _<_, _^_};
 ghost use lib.ListN.{length, replicate};
-ghost use Rattle.machine.specs.Machine.{step as stepped, runs, start, badProgram, badAddress, refused, interpreted};
+ghost use Rattle.machine.specs.Machine.{step as stepped, runs, start, badAddress, refused, interpreted};
 ghost use Rattle.machine.specs.Machine.{overlap as overlapping};
 ghost use Rattle.dispatch.specs.Represent.{LeadsOn};
 use dispatch::answer::Next;
 use dispatch::obey::obey;
 use dispatch::why::why;
 use machine::instruction::parts_at;
+use machine::limits::bad_program;
 use machine::outcome::Outcome;
 
 // The instruction at pc, fetched and obeyed. No test asks whether dst and src are registers: sixteen numbers are kept, and one above 10 is never set.
@@ -96,12 +97,6 @@ fn clear(m: &mut [u8])
         m[i] = 0;
         i += 1;
     }
-}
-
-fn bad_program(length: usize) -> bool
-    ensures { λ b. ⌜ b ≡ badProgram length ⌝ }
-{
-    (length == 0) | (length % 8 != 0) | (length > 32768)
 }
 
 fn bad_address(a: u64) -> bool

@@ -20,7 +20,7 @@ pub enum Place {
     Outside,
 }
 
-fn byte_count(size: Size) -> usize
+pub fn byte_count(size: Size) -> usize
     ensures { λ r. ⌜ (r ≡ bytes size) × (r ≤ 8) ⌝ }
 {
     match size {

@@ -48,6 +48,9 @@ a-reason-by-its-number Outside = refl
 a-reason-by-its-number LeaksAddress = refl
 a-reason-by-its-number DeadCode = refl
 
+pub a-reason-has-its-own-number : (r s : Reason) → reasonNumber r ≡ reasonNumber s → r ≡ s
+a-reason-has-its-own-number r s e = sym (a-reason-by-its-number r) ∙ ap reasonNumbered e ∙ a-reason-by-its-number s
+
 faultNumbered : ℕ → Cause
 faultNumbered n = cond (eqb n 1) BadCode (cond (eqb n 2) OffEnd (cond (eqb n 3) Unset (cond (eqb n 4) WriteR10 BadAccess)))
 
@@ -70,21 +73,21 @@ answerFrom code s =
     (cond (eqb code 1) (Judgement (record { finding = finding.Refused (reasonNumbered (wordOf s 0)) (wordOf s 1); work = wordOf s 2 }))
     (ScratchTooSmall (wordOf s 0)))
 
-a-judgement-from-what-is-said : (f : Finding) (work : ℕ)
-    → answerFrom (findingSaid f work .code) (findingSaid f work) ≡ Judgement (record { finding = f; work = work })
+a-judgement-from-what-is-said : (n : ℕ) (f : Finding) (work : ℕ)
+    → answerFrom (findingSaid n f work .code) (findingSaid n f work) ≡ Judgement (record { finding = f; work = work })
 unfolding answerFrom findingSaid wordOf
-a-judgement-from-what-is-said finding.Accepted work = refl
-a-judgement-from-what-is-said (finding.Refused reason place) work =
+a-judgement-from-what-is-said n finding.Accepted work = refl
+a-judgement-from-what-is-said n (finding.Refused reason place) work =
     ap (λ r. Judgement (record { finding = finding.Refused r place; work = work })) (a-reason-by-its-number reason)
 
-an-answer-from-what-is-said : (a : Answer) → answerFrom (answerSaid a .code) (answerSaid a) ≡ a
+an-answer-from-what-is-said : (n : ℕ) (a : Answer) → answerFrom (answerSaid n a .code) (answerSaid n a) ≡ a
 unfolding answerFrom answerSaid wordOf
-an-answer-from-what-is-said (Judgement j) = a-judgement-from-what-is-said (j .finding) (j .work)
-an-answer-from-what-is-said (ScratchTooSmall words) = refl
+an-answer-from-what-is-said n (Judgement j) = a-judgement-from-what-is-said n (j .finding) (j .work)
+an-answer-from-what-is-said n (ScratchTooSmall words) = refl
 
-pub no-two-answers-are-said-alike : (a b : Answer) → answerSaid a ≡ answerSaid b → a ≡ b
-no-two-answers-are-said-alike a b e =
-    sym (an-answer-from-what-is-said a) ∙ ap (λ s. answerFrom (s .code) s) e ∙ an-answer-from-what-is-said b
+pub no-two-answers-are-said-alike : (n m : ℕ) (a b : Answer) → answerSaid n a ≡ answerSaid m b → a ≡ b
+no-two-answers-are-said-alike n m a b e =
+    sym (an-answer-from-what-is-said n a) ∙ ap (λ s. answerFrom (s .code) s) e ∙ an-answer-from-what-is-said m b
 
 outcomeFrom : ℕ → Said → Outcome
 outcomeFrom code s =

@@ -1,3 +1,4 @@
-pub mod Ending
+pub mod EndToEnd
 pub mod Injective
+pub mod Meaning
 pub mod Saying

@@ -15,14 +15,15 @@ pub record Said : Type 0 where
   pub code : ℕ
   pub words : List ℕ
 
--- accepted; refused, with the reason's number and the place; both with the work done; the scratch memory that would be enough
-unfoldable pub findingSaid : Finding → ℕ → Said
-findingSaid finding.Accepted work = record { code = 0; words = 0 ∷ 0 ∷ work ∷ [] }
-findingSaid (finding.Refused reason place) work = record { code = 1; words = reasonNumber reason ∷ place ∷ work ∷ [] }
+-- of a program of n instructions: accepted, with the steps that are enough for every run, n; refused, with the reason's number and the
+-- place; both with the work done; the scratch memory that would be enough
+unfoldable pub findingSaid : ℕ → Finding → ℕ → Said
+findingSaid n finding.Accepted work = record { code = 0; words = 0 ∷ 0 ∷ work ∷ n ∷ [] }
+findingSaid n (finding.Refused reason place) work = record { code = 1; words = reasonNumber reason ∷ place ∷ work ∷ 0 ∷ [] }
 
-unfoldable pub answerSaid : Answer → Said
-answerSaid (Judgement j) = findingSaid (j .finding) (j .work)
-answerSaid (ScratchTooSmall words) = record { code = 2; words = words ∷ 0 ∷ 0 ∷ [] }
+unfoldable pub answerSaid : ℕ → Answer → Said
+answerSaid n (Judgement j) = findingSaid n (j .finding) (j .work)
+answerSaid n (ScratchTooSmall words) = record { code = 2; words = words ∷ 0 ∷ 0 ∷ 0 ∷ [] }
 
 -- a verdict; a fault with its number and the index; a spent budget; all with the steps made. A refusal says no more
 unfoldable pub outcomeSaid : Outcome → Said

@@ -1,3 +1,2 @@
-pub mod EndToEnd
 pub mod Encoding
 pub mod Exported

@@ -1,12 +1,11 @@
 // The functions of the C library, as include/probewarden.h declares them. A slice is a pointer and a length there.
-// Assumes nothing: whatever the numbers and the bytes are, the answer is the definition's.
 ghost use mathlib.Core.Path.{_≡_};
 ghost use mathlib.Core.List.{[], _∷_};
 ghost use Prim.Native.Nat.{_≤_};
 ghost use lib.ListN.{length};
 ghost use Rattle.text.specs.Buffer.{Put};
-ghost use Rattle.probewarden.specs.Encoding.{ended, headed};
-ghost use Rattle.probewarden.specs.Exported.{enough, Verified, Interpreted};
+ghost use Rattle.probewarden.specs.Encoding.{answerSaid, ended, headed};
+ghost use Rattle.probewarden.specs.Exported.{enough, Says, Verified, Interpreted};
 ghost use Rattle.reasons.specs.Names.{reasonName, faultName};
 use analysis::Answer;
 use analysis::Finding;
@@ -23,6 +22,9 @@ use waiting::BLOCK_WORDS;
 // Why nothing was done: there is no room for the answer.
 const NO_ROOM: u64 = 9;
 
+// Or there are no such rules.
+const BAD_RULES: u64 = 11;
+
 fn store(answer: &mut [u64], a: u64, b: u64, c: u64)
     requires { ⌜ 3 ≤ length (now answer) ⌝ }
     ensures { λ _. ⌜ now (answer .exit) ≡ headed (a ∷ b ∷ c ∷ []) (now (answer .entry)) ⌝ }
@@ -30,6 +32,14 @@ fn store(answer: &mut [u64], a: u64, b: u64, c: u64)
     answer[0] = a;
     answer[1] = b;
     answer[2] = c;
+}
+
+fn store_four(answer: &mut [u64], a: u64, b: u64, c: u64, d: u64)
+    requires { ⌜ 4 ≤ length (now answer) ⌝ }
+    ensures { λ _. ⌜ now (answer .exit) ≡ headed (a ∷ b ∷ c ∷ d ∷ []) (now (answer .entry)) ⌝ }
+{
+    store(answer, a, b, c);
+    answer[3] = d;
 }
 
 // The words of scratch memory that are enough for a program of so many instructions.
@@ -43,22 +53,14 @@ pub extern "C" fn pw_scratch_words(instructions: u64) -> u64
     0
 }
 
-#[no_mangle]
-pub extern "C" fn pw_verify(
-    program: &[u8],
-    record_len: u64,
-    scratch: &mut [u64],
-    answer: &mut [u64],
-) -> u64
-    ensures { λ r. ⌜ Verified (now (program .entry)) record_len (length (now (scratch .entry))) (now (answer .entry)) (now (answer .exit)) r ⌝ }
+// What the verifier found of a program of n instructions is said.
+fn tell(answer: &mut [u64], n: u64, found: Answer) -> u64
+    requires { ⌜ 4 ≤ length (now answer) ⌝ }
+    ensures { λ r. ⌜ Says (answerSaid n found) (now (answer .entry)) (now (answer .exit)) r ⌝ }
 {
-    if answer.len() < 3 {
-        return NO_ROOM;
-    }
-    let found = verify(program, record_len, scratch);
     match found {
         Answer::ScratchTooSmall { words } => {
-            store(answer, words, 0, 0);
+            store_four(answer, words, 0, 0, 0);
             2
         }
         Answer::Judgement(judged) => {
@@ -66,16 +68,39 @@ pub extern "C" fn pw_verify(
             let work = judged.work;
             match finding {
                 Finding::Accepted => {
-                    store(answer, 0, 0, work);
+                    store_four(answer, 0, 0, work, n);
                     0
                 }
                 Finding::Refused { reason, place } => {
-                    store(answer, reason_number(reason), place, work);
+                    store_four(answer, reason_number(reason), place, work, 0);
                     1
                 }
             }
         }
     }
+}
+
+// Rules other than 0, and with them a limit of visits, are for loops, which are not taken yet.
+#[no_mangle]
+pub extern "C" fn pw_verify(
+    program: &[u8],
+    record_len: u64,
+    rules: u64,
+    limit: u64,
+    scratch: &mut [u64],
+    answer: &mut [u64],
+) -> u64
+    ensures { λ r. ⌜ Verified (now (program .entry)) record_len rules (now (scratch .entry)) (now (scratch .exit))
+        (now (answer .entry)) (now (answer .exit)) r ⌝ }
+{
+    if answer.len() < 4 {
+        return NO_ROOM;
+    }
+    if rules != 0 {
+        return BAD_RULES;
+    }
+    let found = verify(program, record_len, scratch);
+    tell(answer, (program.len() / 8) as u64, found)
 }
 
 #[no_mangle]

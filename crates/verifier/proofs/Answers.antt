@@ -19,74 +19,91 @@ use Rattle.analysis.specs.declared.Answer.{Answer}
 use Rattle.analysis.specs.declared.Answer.the-variants.{Judgement, ScratchTooSmall}
 use Rattle.waiting.specs.Layout.{words, blockWords}
 use Rattle.verifier.specs.Sending.{Followed}
-use Rattle.verifier.specs.Answered.{isAccepted, passesForm, answered, Answers}
+use Rattle.verifier.specs.Answered.{isAccepted, isOrderly, passesForm, answered, Untouched, Answers}
 
 true-is-not-false : (b : Bool) → b ≡ true → b ≡ false → ⊥
 true-is-not-false b p q = let z : _≡_ {A = Bool} true false = sym p ∙ q in let y : _≡_ {A = ℕ} 0 1 = cc in omega arith
 
-where-form-fails : (program : List ℕ) (R : ℕ) (m : List ℕ) (r : Answer) → passesForm program R ≡ false → r ≡ Judgement (judged program R)
+-- nothing was done to scratch memory
+pub unchanged : (program : List ℕ) (R : ℕ) (m : List ℕ) → Untouched program R m m
+unchanged program R m = record { order = λ p. refl; paths = λ p. refl; small = λ p. refl }
+
+where-order-fails : (program : List ℕ) (R : ℕ) (m : List ℕ) (r : Answer) → isOrderly program R ≡ false → r ≡ Judgement (judged program R)
     → Answers program R m m r
-unfolding answered
-where-form-fails program R m r fails is = (
+unfolding answered passesForm
+where-order-fails program R m r fails is = (
   rw fails is,
   (
-    record { holds = λ p q j. absurd (true-is-not-false (passesForm program R) p fails) },
-    record { form = λ p. refl; small = λ p. refl },
+    record { holds = λ p q j. absurd (true-is-not-false _ p (rw fails refl)) },
+    unchanged program R m,
   ),
 )
 
 pub a-bad-length : (program : List ℕ) (R : ℕ) (m : List ℕ) (r : Answer) → badProgram (length program) ≡ true
     → r ≡ Judgement (record { finding = Refused BadLength 0; work = 0 }) → Answers program R m m r
-unfolding passesForm judged
-a-bad-length program R m r bad is = where-form-fails program R m r (rw bad) (rw bad is)
+unfolding isOrderly judged
+a-bad-length program R m r bad is = where-order-fails program R m r (rw bad) (rw bad is)
 
 pub a-long-record : (program : List ℕ) (R : ℕ) (m : List ℕ) (r : Answer) → badProgram (length program) ≡ false → 1024 < R
     → r ≡ Judgement (record { finding = Refused LongRecord 0; work = 0 }) → Answers program R m m r
-unfolding passesForm judged badRecord
-a-long-record program R m r good long is = where-form-fails program R m r (rw (good, lt-ltb 1024 R long)) (rw (good, lt-ltb 1024 R long) is)
+unfolding isOrderly judged badRecord
+a-long-record program R m r good long is =
+    where-order-fails program R m r (rw (good, lt-ltb 1024 R long)) (rw (good, lt-ltb 1024 R long) is)
 
 pub a-test-that-fails : (program : List ℕ) (R : ℕ) (m : List ℕ) (f : Finding) (reason : Reason) (place : ℕ)
     → badProgram (length program) ≡ false → R ≤ 1024 → f ≡ formed program (length program / 8) 0 → f ≡ Refused reason place
     → Answers program R m m (Judgement (record { finding = Refused reason place; work = place + 1 }))
-unfolding passesForm judged onForm badRecord isAccepted
+unfolding isOrderly judged onForm badRecord isAccepted
 a-test-that-fails program R m f reason place good short tests is =
-    where-form-fails program R m _ (rw (good, le-ltb 1024 R short, sym tests, is)) (rw (good, le-ltb 1024 R short, sym tests, is))
+    where-order-fails program R m _ (rw (good, le-ltb 1024 R short, sym tests, is)) (rw (good, le-ltb 1024 R short, sym tests, is))
 
 -- the tests at each index have been passed
-module _ (program : List ℕ) (R n : ℕ) (m : List ℕ) (g : Finding) (good : badProgram (length program) ≡ false) (short : R ≤ 1024)
-    (size : n ≡ length program / 8) (tests : formed program (length program / 8) 0 ≡ Accepted) (paths : g ≡ connected program) where
-  pub dead-code : (reason : Reason) (place : ℕ) → g ≡ Refused reason place
-      → Answers program R m m (Judgement (record { finding = Refused reason place; work = n + (place + 1) }))
-  unfolding passesForm judged onForm onPaths badRecord isAccepted
-  dead-code reason place is =
-      where-form-fails program R m _ (rw (good, le-ltb 1024 R short, tests, sym paths, is)) (rw (good, le-ltb 1024 R short, tests, sym paths, is, size))
+module _ (program : List ℕ) (R n : ℕ) (m : List ℕ) (good : badProgram (length program) ≡ false) (short : R ≤ 1024)
+    (size : n ≡ length program / 8) (tests : formed program (length program / 8) 0 ≡ Accepted) where
+  orderly : isOrderly program R ≡ true
+  unfolding isOrderly badRecord isAccepted
+  orderly = rw (good, le-ltb 1024 R short, tests)
 
-  passes : g ≡ Accepted → passesForm program R ≡ true
-  unfolding passesForm badRecord isAccepted
-  passes is = rw (good, le-ltb 1024 R short, tests, sym paths, is)
-
-  pub too-little-memory : g ≡ Accepted → length m < blockWords * n → Answers program R m m (ScratchTooSmall (blockWords * n))
+  pub too-little-memory : length m < blockWords * n → Answers program R m m (ScratchTooSmall (blockWords * n))
   unfolding answered words
-  too-little-memory is less = (
-    rw (passes is, sym size, lt-ltb (length m) (blockWords * n) less),
+  too-little-memory less = (
+    rw (orderly, sym size, lt-ltb (length m) (blockWords * n) less),
     (
       record { holds = λ p q j. absurd (true-is-not-false _ (rw (sym size) (lt-ltb (length m) (blockWords * n) less)) q) },
-      record { form = λ p. refl; small = λ p. refl },
+      unchanged program R m,
     ),
   )
 
-  pub the-values-were-followed : (m′ : List ℕ) (r : Judged) → g ≡ Accepted → blockWords * n ≤ length m → Followed program R n r m m′ → Answers program R m m′ (Judgement r)
-  unfolding answered words judged onForm onPaths badRecord
-  the-values-were-followed m′ r is enough h = (
-    rw (passes is, sym size, le-ltb (length m) (blockWords * n) enough, good, le-ltb 1024 R short, size, tests, sym paths, is) (ap Judgement (h .found)),
-    (
-      record { holds = λ p q j. rw (sym size) (ap (λ w. w j) (h .waits)) },
-      record {
-        form = λ p. absurd (true-is-not-false _ (passes is) p);
-        small = λ p. absurd (true-is-not-false _ p (rw (sym size) (le-ltb (length m) (blockWords * n) enough)));
-      },
-    ),
-  )
+  module _ (g : Finding) (enough : blockWords * n ≤ length m) (paths : g ≡ connected program) where
+    is-enough : ltb (length m) (words (length program / 8)) ≡ false
+    unfolding words
+    is-enough = rw (sym size) (le-ltb (length m) (blockWords * n) enough)
+
+    pub dead-code : (reason : Reason) (place : ℕ) → g ≡ Refused reason place
+        → Answers program R m m (Judgement (record { finding = Refused reason place; work = n + (place + 1) }))
+    unfolding answered passesForm judged onForm onPaths badRecord isAccepted
+    dead-code reason place is = (
+      rw (orderly, is-enough, good, le-ltb 1024 R short, size, tests, sym paths, is),
+      (
+        record { holds = λ p q j. absurd (true-is-not-false _ p (rw (orderly, sym paths, is) refl)) },
+        unchanged program R m,
+      ),
+    )
+
+    pub the-values-were-followed : (m′ : List ℕ) (r : Judged) → g ≡ Accepted → Followed program R n r m m′
+        → Answers program R m m′ (Judgement r)
+    unfolding answered judged onForm onPaths badRecord isAccepted
+    the-values-were-followed m′ r is h = (
+      rw (orderly, is-enough, good, le-ltb 1024 R short, tests, sym paths, is) (ap Judgement (h .found)),
+      (
+        record { holds = λ p q j. rw (sym size) (ap (λ w. w j) (h .waits)) },
+        record {
+          order = λ p. absurd (true-is-not-false _ orderly p);
+          paths = λ p. absurd (true-is-not-false _ (rw (sym paths, is) refl) p);
+          small = λ p. absurd (true-is-not-false _ p is-enough);
+        },
+      ),
+    )
 
 -- ---- the length of a program of good form
 

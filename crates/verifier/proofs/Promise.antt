@@ -1,25 +1,22 @@
--- What the verifier's answer promises, by the theorems about the analysis.
+-- What the verifier's answer promises, by the theorem about the analysis.
 use mathlib.Core.Path.{_≡_, sym, subst}
 use mathlib.Core.Bool.{Bool, true, false, cond, _&&_}
 use mathlib.Core.List.{List}
 use Prim.Native.Nat.{ℕ, _/_}
-use native.Mathlib.Omega.{arith}
 use lib.ListN.{length}
 use lib.Dec.{ltb}
 use Rattle.analysis.specs.Judged.{judged}
-use Rattle.analysis.proofs.Theorem.{accepted-safe}
-use Rattle.analysis.proofs.Whole.{judged-whole}
-use Rattle.analysis.proofs.Work.{work-linear}
+use Rattle.analysis.proofs.Promised.{judged-promised}
 use Rattle.analysis.specs.declared.Answer.{Answer}
 use Rattle.analysis.specs.declared.Answer.the-variants.{Judgement, ScratchTooSmall}
 use Rattle.waiting.specs.Layout.{words}
-use Rattle.verifier.specs.Answered.{passesForm, answered, Promises}
+use Rattle.verifier.specs.Answered.{isOrderly, answered, Promises}
 
 pub the-answer-promises : (program : List ℕ) (R size : ℕ) (r : Answer) → r ≡ answered program R size → Promises program R r
 unfolding answered
 the-answer-promises program R size r e =
-    subst (Promises program R) (sym e) (go (passesForm program R && ltb size (words (length program / 8))))
+    subst (Promises program R) (sym e) (go (isOrderly program R && ltb size (words (length program / 8))))
   where
     go : (b : Bool) → Promises program R (cond b (ScratchTooSmall (words (length program / 8))) (Judgement (judged program R)))
-    go true = record { yes-is-safe = λ h. absurd h; whole = tt; work-is-linear = omega arith }
-    go false = record { yes-is-safe = accepted-safe program R; whole = judged-whole program R; work-is-linear = work-linear program R }
+    go true = tt
+    go false = judged-promised program R

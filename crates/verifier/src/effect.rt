@@ -25,6 +25,7 @@ use machine::instruction::Instruction;
 use machine::instruction::Operand;
 use machine::instruction::Size;
 use machine::instruction::Width;
+use machine::memory::byte_count;
 use number::Number;
 use waiting::state::register;
 use waiting::state::single_at;
@@ -274,17 +275,6 @@ fn limit(rlen: u64, kind: u64) -> u64
     512
 }
 
-fn bytes(size: Size) -> u64
-    ensures { λ r. ⌜ r ≡ machine.bytes size ⌝ }
-{
-    match size {
-        Size::One => 1,
-        Size::Two => 2,
-        Size::Four => 4,
-        Size::Eight => 8,
-    }
-}
-
 // The greatest number of as many bytes.
 fn last(size: Size) -> u64
     ensures { λ r. ⌜ r ≡ 2 ^ (8 * machine.bytes size) - 1 ⌝ }
@@ -301,7 +291,11 @@ fn last(size: Size) -> u64
 fn inside(a: Number, off: u64, size: Size, end: u64) -> bool
     ensures { λ r. ⌜ r ≡ number.fits (number.computed 64 Operation.Add a (exact off)) (machine.bytes size) end ⌝ }
 {
-    fits(alu64(Operation::Add, a, exactly(off)), bytes(size), end)
+    fits(
+        alu64(Operation::Add, a, exactly(off)),
+        byte_count(size) as u64,
+        end,
+    )
 }
 
 fn loaded(rlen: u64, size: Size, d: u64, off: u64, x: Held) -> Outcome

@@ -14,13 +14,8 @@ use analysis::Answer;
 use analysis::Finding;
 use analysis::Judged;
 use analysis::Reason;
+use machine::limits::bad_program;
 use waiting::BLOCK_WORDS;
-
-fn bad_program(length: usize) -> bool
-    ensures { λ r. ⌜ r ≡ machine.badProgram length ⌝ }
-{
-    (length == 0) | (length % 8 != 0) | (8 * 4096 < length)
-}
 
 fn refusal(reason: Reason) -> Answer
     ensures { λ r. ⌜ r ≡ Answer.Judgement (record { finding = Finding.Refused reason 0; work = 0 }) ⌝ }
@@ -31,25 +26,23 @@ fn refusal(reason: Reason) -> Answer
     })
 }
 
-// The tests at each index have been passed: dead code comes next, then scratch memory, then the values.
+// The tests at each index have been passed: scratch memory comes next, then dead code, then the values.
 fn annotate_orderly(program: &[u8], n: usize, record_len: u64, scratch: &mut [u64]) -> Answer
     requires { ⌜ (machine.badProgram (length (now program)) ≡ false) × (record_len ≤ 1024) × (n ≡ length (now program) / 8) × (formed (now program) (length (now program) / 8) 0 ≡ finding.Accepted) ⌝ }
     ensures { λ r. ⌜ Answers (now (program .entry)) record_len (now (scratch .entry)) (now (scratch .exit)) r ⌝ }
 {
+    if scratch.len() < BLOCK_WORDS * n {
+        return Answer::ScratchTooSmall {
+            words: (BLOCK_WORDS as u64) * n as u64,
+        };
+    }
     let paths = connected(program, n);
     match paths {
         Finding::Refused { reason, place } => Answer::Judgement(Judged {
             finding: Finding::Refused { reason, place },
             work: n as u64 + (place + 1),
         }),
-        Finding::Accepted => {
-            if scratch.len() < BLOCK_WORDS * n {
-                return Answer::ScratchTooSmall {
-                    words: (BLOCK_WORDS as u64) * n as u64,
-                };
-            }
-            Answer::Judgement(follow(program, n, record_len, scratch))
-        }
+        Finding::Accepted => Answer::Judgement(follow(program, n, record_len, scratch)),
     }
 }
 
@@ -76,10 +69,11 @@ pub fn annotate(program: &[u8], record_len: u64, scratch: &mut [u64]) -> Answer
     }
 }
 
-// A yes is a theorem about the interpreter's definition.
+// A yes is a theorem about the interpreter's definition; a refusal for the form changes nothing.
 pub fn verify(program: &[u8], record_len: u64, scratch: &mut [u64]) -> Answer
     ensures answer { λ r. ⌜ r ≡ answered (now (program .entry)) record_len (length (now (scratch .entry))) ⌝ }
     ensures promise { λ r. ⌜ Promises (now (program .entry)) record_len r ⌝ }
+    ensures untouched { λ r. ⌜ Untouched (now (program .entry)) record_len (now (scratch .entry)) (now (scratch .exit)) ⌝ }
 {
     annotate(program, record_len, scratch)
 }

@@ -1,20 +1,13 @@
--- `pw_verify`: what the verifier answers is said.
-use Rattle.probewarden.specs.Encoding.{findingSaid, answerSaid}
-use Rattle.probewarden.proofs.Saying.{no-room-to-verify, an-answer-is-said}
+-- `pw_verify`: what the verifier answers is said, unless there is no room or the rules are not known.
+use Rattle.probewarden.proofs.Saying.{no-room-to-verify, unknown-rules, an-answer-is-said}
 use borrow.Author.Needs.{needs}
 use Rattle.probewarden.proofs.exported.pw_verify.Statement.{statement}
 use Rattle.probewarden.proofs.exported.pw_verify.Tie as tie
 
 pub pw-verify-spec : {M : Type 1} → statement M
-unfolding answerSaid findingSaid
 pw-verify-spec =
     tie.close
     (tie.spec
-    (λ c. no-room-to-verify _ _ _ _ (c .if1 .taken)) (λ c κs. search needs) (λ c. search needs) (λ c κs. search needs) (λ c. search needs)
-    (λ c. search needs) (λ c κs. search needs) (λ c. search needs) (λ c κs. search needs) (λ c κs. search needs) (λ c. search needs)
-    (λ c. search needs)
-    (λ c. an-answer-is-said _ _ _ _ _ _ _ _ (c .before .before .before .before .before .before .before .before .before .verify .ensures .0) (c .before .before .before .before .before .before .before .before .before .verify .ensures .1) (rw (c .before .before .before .before .before .found .given .1)) (c .before .before .before .before .before .before .before .before .before .before .before .if1 .left) (c .before .before .store .ensures))
-    (λ c. search needs) (λ c. search needs)
-    (λ c. an-answer-is-said _ _ _ _ _ _ _ _ (c .before .before .before .before .before .before .before .before .before .before .before .verify .ensures .0) (c .before .before .before .before .before .before .before .before .before .before .before .verify .ensures .1) (rw (c .before .before .before .before .before .before .before .found2 .given .1, c .before .before .before .before .enum-told .given .1)) (c .before .before .before .before .before .before .before .before .before .before .before .before .before .if1 .left) (c .before .before .store2 .ensures))
-    (λ c. search needs) (λ c. search needs)
-    (λ c. an-answer-is-said _ _ _ _ _ _ _ _ (c .before .before .before .before .before .before .before .before .before .before .before .before .before .verify .ensures .0) (c .before .before .before .before .before .before .before .before .before .before .before .before .before .verify .ensures .1) (rw (c .before .before .before .before .before .before .before .before .before .found2 .given .1, c .before .before .before .before .before .before .finding .given .1, ← c .before .before .before .reason-number .ensures)) (c .before .before .before .before .before .before .before .before .before .before .before .before .before .before .before .if1 .left) (c .before .before .store3 .ensures)))
+    (λ c. no-room-to-verify _ _ _ _ _ (c .if1 .taken)) (λ c. unknown-rules _ _ _ _ _ (c .before .if1 .left) (c .if2 .taken))
+    (λ c κs. search needs) (λ c κs. search needs) (λ c. search needs) (λ c. search needs)
+    (λ c. let found = c .before .before .before .before .before .before .verify .ensures in an-answer-is-said _ _ _ _ _ _ _ _ _ (c .before .before .before .before .before .before .before .before .before .if1 .left) (c .before .before .before .before .before .before .before .before .if2 .left) (found .0) (found .1 .0) (found .1 .1) (c .before .before .tell .ensures)))

@@ -9,4 +9,4 @@ inside-spec =
     tie.close
     (tie.spec
     (λ c κs. search needs) (λ c κs. search needs) (λ c κs. search needs) (λ c κs. search needs)
-    (λ c. rw (sym (c .before .before .before .exactly .ensures), sym (c .before .before .alu64 .ensures), sym (c .before .bytes .ensures)) (c .fits2 .ensures)))
+    (λ c. rw (sym (c .before .before .before .exactly .ensures), sym (c .before .before .alu64 .ensures), sym (c .before .byte-count .ensures .0)) (c .fits2 .ensures)))

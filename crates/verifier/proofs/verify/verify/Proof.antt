@@ -9,4 +9,4 @@ verify-spec =
     tie.close
     (tie.spec
     (λ c κs. search needs) (λ c. search needs)
-    (λ c. (c .before .before .annotate .ensures .0, the-answer-promises _ _ _ _ (c .before .before .annotate .ensures .0))))
+    (λ c. let a = c .before .before .annotate .ensures in (a .0, (the-answer-promises _ _ _ _ (a .0), a .1 .1))))

@@ -1,9 +1,9 @@
 -- `bad_program`: the tests are those of the definition.
 use mathlib.Core.Path.{refl}
 use borrow.Author.Needs.{needs}
 use Rattle.machine.specs.Machine.{badProgram}
-use Rattle.verifier.proofs.verify.bad_program.Statement.{statement}
-use Rattle.verifier.proofs.verify.bad_program.Tie as tie
+use Rattle.machine.proofs.limits.bad_program.Statement.{statement}
+use Rattle.machine.proofs.limits.bad_program.Tie as tie
 
 pub bad-program-spec : {M : Type 1} → statement M
 unfolding badProgram
