@@ -28,6 +28,7 @@ use Rattle.analysis.specs.Effects.{effect}
 use Rattle.analysis.specs.Form.{instruction}
 use Rattle.analysis.specs.Judged.{Flow, refuses, flows, apply, Waiting, arrive, Progress, halted, onward, send, andThen, distribute, visit, Walk, conclude, pass}
 use Rattle.analysis.specs.Safe.{Bytes}
+use Rattle.analysis.proofs.Literal.{conclude-halted, conclude-onward}
 use Rattle.analysis.proofs.LayoutFree.{Config, Course, stuck, ends, goes, free}
 use Rattle.analysis.proofs.Meaning.{Describes, Awaits, meeting-covers-waiting, meeting-covers-coming}
 use Rattle.analysis.proofs.Sound.{WordOperand, Words, Follows, effect-follows}
@@ -117,9 +118,9 @@ refused-not-accepted reason place e = subst IsRefused e tt
 
 pub accepted-onward : (r : Progress) (i : ℕ) (more : Waiting → ℕ → Walk) (G : Waiting → Type 0) → Unless r G → conclude r i more .finding ≡ Accepted
     → (q : Waiting) × (work : ℕ) × G q × (more q work .finding ≡ Accepted)
-unfolding conclude
-accepted-onward (halted reason p work) i more G h e = absurd (refused-not-accepted reason i e)
-accepted-onward (onward q work) i more G h e = (q, work, h, e)
+accepted-onward (halted reason p work) i more G h e =
+    absurd (refused-not-accepted reason i (sym (ap (λ (w : Walk). w .finding) (conclude-halted reason p work i more)) ∙ e))
+accepted-onward (onward q work) i more G h e = (q, work, h, sym (ap (λ (w : Walk). w .finding) (conclude-onward q work i more)) ∙ e)
 
 module _ (program rec : List ℕ) (record-bytes : Bytes rec) (short : length program / 8 ≤ 2 ^ 64) where
   -- a step from index i that is not stuck, and ends, or goes on to a later index, where it is awaited

@@ -19,6 +19,7 @@ use Rattle.analysis.specs.Effects.{effect}
 use Rattle.analysis.specs.Form.{instruction}
 use Rattle.analysis.specs.Judged.{Flow, refuses, flows, having, withOperand, along, apply}
 use Rattle.analysis.specs.Promise.{together, flowing, flow, knownFrom}
+use Rattle.analysis.proofs.Literal.{along-possible, along-excluded}
 
 abbrev pub Eleven : Option Facts → Type 0
 Eleven none = Unit {0}
@@ -41,10 +42,10 @@ cond-eleven true o h = h
 cond-eleven false o h = tt
 
 along-eleven : (a : Facts) (d : ℕ) (s : Operand) (r : Refined) → length (a .registers) ≡ 11 → Eleven (along a d s r)
-unfolding along withOperand having
-along-eleven a d s Excluded e = tt
-along-eleven a d (Immediate n) (Possible x y) e = simp length-set e
-along-eleven a d (Register t) (Possible x y) e = simp length-set e
+unfolding withOperand having
+along-eleven a d s Excluded e = rw (along-excluded a d s) tt
+along-eleven a d (Immediate n) (Possible x y) e = rw (along-possible a d (Immediate n) x y) (simp length-set e)
+along-eleven a d (Register t) (Possible x y) e = rw (along-possible a d (Register t) x y) (simp length-set e)
 
 -- what flows out of an index
 abbrev pub ElevenFlow : Flow → Type 0

@@ -40,6 +40,7 @@ use Rattle.analysis.specs.declared.Effect.the-variants.{Refuse, Put, Kee
 use Rattle.analysis.specs.Values.{Facts, valueOf, operandOf}
 use Rattle.analysis.specs.Effects.{isNever, isMixed, reading, readingBoth, put, Role, copies, converts, adds, subtracts, calculates, role, calculate, sum, difference, arithmetic, storeAt, store, told, fork, exit, effect}
 use Rattle.analysis.specs.Judged.{having, withOperand, along}
+use Rattle.analysis.proofs.Literal.{along-possible, along-excluded}
 use Rattle.analysis.proofs.Told.{told-exact, told-exact-excluded}
 use Rattle.analysis.proofs.LayoutFree.{Cell, unset, number, offset, Config, Course, stuck, ends, goes, cellOf, operandCell, putCell, copied, calculated, summed, subtracted, worked, storedAt, stored, jumpedTo, forked, exited, free}
 use Rattle.analysis.proofs.Meaning.{Stands, StandAll, Describes, stand-get}
@@ -222,13 +223,11 @@ module _ (c : Config) where
 
   along-exact : (d : ℕ) (s : Operand) (x y : ℕ) (o : Refined) → cellOf c d ≡ number x → operandCell c s ≡ number y → o ≡ Possible (exact x) (exact y)
       → along (facts c) d s o ≡ some (facts c)
-  unfolding along
   along-exact d s x y o p q e =
-      ap (along (facts c) d s) e ∙ ap some (ap (λ b. withOperand b s (Plain (exact y))) (same-register d x p) ∙ same-operand s y q)
+      ap (along (facts c) d s) e ∙ along-possible (facts c) d s (exact x) (exact y) ∙ ap some (ap (λ b. withOperand b s (Plain (exact y))) (same-register d x p) ∙ same-operand s y q)
 
-  along-excluded : (d : ℕ) (s : Operand) (o : Refined) → o ≡ Excluded → along (facts c) d s o ≡ none
-  unfolding along
-  along-excluded d s o e = ap (along (facts c) d s) e
+  not-followed : (d : ℕ) (s : Operand) (o : Refined) → o ≡ Excluded → along (facts c) d s o ≡ none
+  not-followed d s o e = ap (along (facts c) d s) e ∙ along-excluded (facts c) d s
 
   compare-matches : (w : Width) (k : Comparison) (d : ℕ) (s : Operand) (off x y : ℕ) → x < 2 ^ 64 → y < 2 ^ 64 → cellOf c d ≡ number x → operandCell c s ≡ number y
       → Matches c (Fork d s (told w k false (exact x) (exact y)) (told w k true (exact x) (exact y)) (c .index + 1 + off)) (jumpedTo (compare (bits w) k x y) c off)
@@ -238,8 +237,8 @@ module _ (c : Config) where
       go : (t : Bool) → compare (bits w) k x y ≡ t
           → Matches c (Fork d s (told w k false (exact x) (exact y)) (told w k true (exact x) (exact y)) (c .index + 1 + off))
           (goes (record { registers = c .registers; stack = c .stack; index = cond t ((c .index + 1 + off) % 2 ^ 64) (c .index + 1) }))
-      go true h = inr (refl, along-excluded d s _ (told-exact-excluded w k false x y p q h), along-exact d s x y _ e f (told-exact w k true x y p q h))
-      go false h = inl (refl, along-exact d s x y _ e f (told-exact w k false x y p q h), along-excluded d s _ (told-exact-excluded w k true x y p q h))
+      go true h = inr (refl, not-followed d s _ (told-exact-excluded w k false x y p q h), along-exact d s x y _ e f (told-exact w k true x y p q h))
+      go false h = inl (refl, along-exact d s x y _ e f (told-exact w k false x y p q h), not-followed d s _ (told-exact-excluded w k true x y p q h))
 
   fork-matches : (w : Width) (k : Comparison) (d : ℕ) (s : Operand) (off : ℕ) (x y : Cell) → Small x → Small y → cellOf c d ≡ x → operandCell c s ≡ y
       → Matches c (readingBoth (exactly x) (exactly y) (fork w k d s (c .index + 1 + off) (exactly x) (exactly y))) (forked w k c off x y)

@@ -4,6 +4,8 @@ pub mod ExactEffects
 pub mod FormLaws
 pub mod Judgement
 pub mod LayoutFree
+pub mod Literal
+pub mod LongerRecord
 pub mod Meaning
 pub mod Paths
 pub mod Programs
@@ -23,8 +25,7 @@ pub mod Theorem
 pub mod Told
 pub mod Unsafe
 pub mod Vectors
+pub mod Whole
 pub mod WithoutLoads
 pub mod Work
 pub mod Worlds
-pub mod Whole
-pub mod LongerRecord

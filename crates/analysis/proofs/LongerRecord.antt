@@ -15,6 +15,7 @@ use Rattle.machine.specs.declared.instruction.Instruction.the-variants.{Alu, Ne
 use Rattle.machine.specs.Machine.{bytes, badRecord}
 use Rattle.number.specs.Sharpen.{exact, loaded}
 use Rattle.number.specs.Computed.{computed, fits}
+use Rattle.number.proofs.Laws.{fits-exactly}
 use Rattle.analysis.specs.declared.Reason.{Reason}
 use Rattle.analysis.specs.declared.Reason.the-variants.{Outside}
 use Rattle.analysis.specs.declared.Region.the-variants.{Record, Stack}
@@ -27,22 +28,22 @@ use Rattle.analysis.specs.Effects.{isNever, isMixed, reading, put, limit
 use Rattle.analysis.specs.Form.{instruction}
 use Rattle.analysis.specs.Judged.{refuses, apply, judged}
 use Rattle.analysis.specs.Promise.{flowing, flow, knownFrom, known, Allows}
+use Rattle.analysis.proofs.Literal.{limit-grows}
 use Rattle.analysis.proofs.Whole.{accepted-exactly}
 
 load-longer : (R S : ℕ) → R ≤ S → (size d off : ℕ) (v : Value)
     → (reading v (load S size d off v) ≡ reading v (load R size d off v)) ⊎ ((reason : Reason) × (reading v (load R size d off v) ≡ Refuse reason))
-unfolding reading isNever isMixed load limit fits
+unfolding reading isNever isMixed load
 load-longer R S l size d off (Unusable g) = inl refl
 load-longer R S l size d off (Plain x) = inl refl
-load-longer R S l size d off (Address Stack o) = inl refl
-load-longer R S l size d off (Address Record o) = go (leb (computed 64 Add o (exact off) .range .hi + size) R) refl
+load-longer R S l size d off (Address p o) = go (fits (computed 64 Add o (exact off)) size (limit R p)) refl
   where
-    go : (t : Bool) → leb (computed 64 Add o (exact off) .range .hi + size) R ≡ t
-        → (cond (leb (computed 64 Add o (exact off) .range .hi + size) S) (put d (Plain (loaded size))) (Refuse Outside) ≡ cond t (put d (Plain (loaded size))) (Refuse Outside))
+    go : (t : Bool) → fits (computed 64 Add o (exact off)) size (limit R p) ≡ t
+        → (cond (fits (computed 64 Add o (exact off)) size (limit S p)) (put d (Plain (loaded size))) (Refuse Outside) ≡ cond t (put d (Plain (loaded size))) (Refuse Outside))
         ⊎ ((reason : Reason) × (cond t (put d (Plain (loaded size))) (Refuse Outside) ≡ Refuse reason))
     go true e =
-        let m : computed 64 Add o (exact off) .range .hi + size ≤ R = leb-true _ _ e in
-        inl (rw (le-leb (computed 64 Add o (exact off) .range .hi + size) S (omega arith)) refl)
+        let n = computed 64 Add o (exact off) in
+        inl (rw (fits-exactly n size (limit S p) .1 (omega (arith, fits-exactly n size (limit R p) .0 e, limit-grows R S l p))) refl)
     go false e = inr (Outside, refl)
 
 -- what an instruction does with a record of R bytes it does with one of S, unless it refuses

@@ -36,6 +36,7 @@ use Rattle.analysis.specs.Values.{Facts, valueOf, operandOf, startFacts}
 use Rattle.analysis.specs.Effects.{isNever, isMixed, reading, readingBoth, put, Role, copies, converts, adds, subtracts, calculates, role, calculate, sum, difference, arithmetic, limit, load, storeAt, store, fork, exit, effect}
 use Rattle.analysis.specs.Form.{instruction, offOf, goesBack, goesOut, mayBeLast, Fine, HasForm}
 use Rattle.analysis.specs.Judged.{onValues, Flow, refuses, flows, along, apply, Waiting, nobody, arrive, Progress, halted, onward, send, andThen, distribute, visit, Walk, conclude, pass, followed}
+use Rattle.analysis.proofs.Literal.{conclude-halted, conclude-onward}
 use Rattle.analysis.proofs.Annotated.{refused-not-accepted}
 use Rattle.analysis.proofs.FormLaws.{refused-injective}
 use Rattle.analysis.proofs.Tests.{or-left, or-right}
@@ -272,7 +273,7 @@ module _ (program : List ℕ) (R : ℕ) (form : HasForm program R) where
 
   pass-refused : (k i : ℕ) → i + k ≡ length program / 8 → (p : Waiting) (work : ℕ) (reason : Reason) (place : ℕ)
       → pass program R k i p work .finding ≡ Refused reason place → RefusedAt program R (pass program R k i p work) reason place
-  unfolding pass conclude
+  unfolding pass
   pass-refused zero i m p work reason place e = absurd (refused-not-accepted reason place (sym e))
   pass-refused (suc k) i m p work reason place e =
       go (visit program R i p work (p i)) (visit-tells i (omega arith) p work (p i)) e (λ q w. pass-refused k (i + 1) (omega arith) q w)
@@ -281,11 +282,15 @@ module _ (program : List ℕ) (R : ℕ) (form : HasForm program R) where
           → ((q : Waiting) (w : ℕ) (s : Reason) (x : ℕ) → pass program R k (i + 1) q w .finding ≡ Refused s x → RefusedAt program R (pass program R k (i + 1) q w) s x)
           → RefusedAt program R (conclude r i (pass program R k (i + 1))) reason place
       go (halted s q w) t h more =
-          let j = refused-injective s reason i place h in
-          subst (λ x. RefusedAt program R (record { finding = Refused s i; work = w; waiting = q }) reason x) (j .1)
+          let e = conclude-halted s q w i (pass program R k (i + 1)) in
+          let j = refused-injective s reason i place (sym (ap (λ (x : Walk). x .finding) e) ∙ h) in
+          rw e
+          (subst (λ x. RefusedAt program R (record { finding = Refused s i; work = w; waiting = q }) reason x) (j .1)
           (subst (λ x. RefusedAt program R (record { finding = Refused s i; work = w; waiting = q }) x i) (j .0)
-          (record { inside = omega arith; facts = t .0; wait = ap (λ f. f i) (t .3) ∙ t .1; refused = t .2 }))
-      go (onward q w) t h more = more q w reason place h
+          (record { inside = omega arith; facts = t .0; wait = ap (λ f. f i) (t .3) ∙ t .1; refused = t .2 })))
+      go (onward q w) t h more =
+          let e = conclude-onward q w i (pass program R k (i + 1)) in
+          rw e (more q w reason place (sym (ap (λ (x : Walk). x .finding) e) ∙ h))
 
   pub followed-refused : (reason : Reason) (place : ℕ) → followed program R .finding ≡ Refused reason place → RefusedAt program R (followed program R) reason place
   unfolding followed conclude

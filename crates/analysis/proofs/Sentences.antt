@@ -36,6 +36,7 @@ use Rattle.analysis.specs.Effects.{isNever, isMixed, reading, readingBot
 use Rattle.analysis.specs.Form.{instruction}
 use Rattle.analysis.specs.Judged.{having, withOperand, along, apply}
 use Rattle.analysis.specs.Promise.{known, WayOut, OfArithmetic, OfMemory, OfWays, OfRegisters, Sentences}
+use Rattle.analysis.proofs.Literal.{along-possible, along-excluded}
 use Rattle.analysis.proofs.Eleven.{Eleven, known-eleven}
 
 -- ---- arithmetic
@@ -134,19 +135,19 @@ registers-told a =
 
 -- ---- ways
 -- a way out of a jump that is possible
-along-possible : (a : Facts) (d : ℕ) (s : Operand) (x y : Number) → WayOut a d s x y (along a d s (Possible x y))
-unfolding along withOperand having
-along-possible a d (Immediate n) x y = record {
+way-out : (a : Facts) (d : ℕ) (s : Operand) (x y : Number) → WayOut a d s x y (along a d s (Possible x y))
+unfolding withOperand having
+way-out a d (Immediate n) x y = record {
   facts = having a d (Plain x);
-  followed-on = refl;
+  followed-on = along-possible a d (Immediate n) x y;
   others = λ r h k. having-others a d r (Plain x) h;
   second = λ r e l. let z : _≡_ {A = ℕ} 0 1 = cc in absurd (omega arith);
   first = λ l k. having-written a d (Plain x) l;
   as-many = simp length-set;
 }
-along-possible a d (Register t) x y = record {
+way-out a d (Register t) x y = record {
   facts = having (having a d (Plain x)) t (Plain y);
-  followed-on = refl;
+  followed-on = along-possible a d (Register t) x y;
   others = λ r h k. having-others (having a d (Plain x)) t r (Plain y) (λ e. k (ap Register (sym e))) ∙ having-others a d r (Plain x) h;
   second = λ r e l. let q : t ≡ r = cc in subst (λ u. valueOf (having (having a d (Plain x)) t (Plain y)) u ≡ Plain y) q
       (having-written (having a d (Plain x)) t (Plain y) (simp length-set (rw q l)));
@@ -155,7 +156,7 @@ along-possible a d (Register t) x y = record {
 }
 
 ways-told : (R i : ℕ) (a : Facts) → OfWays R i a
-unfolding apply effect reading readingBoth isNever isMixed exit fork told along
+unfolding apply effect reading readingBoth isNever isMixed exit fork told
 ways-told R i a =
     record {
       put-flows = λ d v. refl;
@@ -166,8 +167,8 @@ ways-told R i a =
       jump-flows = λ w c d s off x y p q. rw (p, q) refl;
       told-long = λ c way x y. refl;
       told-short = λ c way x y. refl;
-      excluded-not-followed = λ d s. refl;
-      possible-followed = along-possible a;
+      excluded-not-followed = along-excluded a;
+      possible-followed = way-out a;
     }
 
 -- ---- all sentences

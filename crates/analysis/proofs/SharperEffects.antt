@@ -45,6 +45,7 @@ use Rattle.analysis.specs.Values.{Facts, valueOf, operandOf}
 use Rattle.analysis.specs.Effects.{isNever, isMixed, reading, readingBoth, put, Role, copies, converts, adds, subtracts, calculates, role, calculate, sum, difference, arithmetic, limit, load, storeAt, store, told, fork, exit, effect}
 use Rattle.analysis.specs.Judged.{having, withOperand, along, Flow, refuses, flows, apply}
 use Rattle.analysis.specs.Sharper.{SharperNumber, SharperValue, SharperFacts, SharperComing, SharperThere, SharperFlow, PossibleValue, PossibleFacts, TellsMore}
+use Rattle.analysis.proofs.Literal.{along-possible, along-excluded, limit-grows}
 use Rattle.analysis.proofs.SharperValues.{exact-itself, value-sharper, having-sharper, with-operand-sharper}
 use Rattle.analysis.proofs.Sound.{WordOperand, Words, wide}
 
@@ -216,13 +217,13 @@ module _ (a′ a : Facts) (h : SharperFacts a′ a) where
 
   -- ---- jumps
   leaves-sharper : (r′ r : Refined) → LeavesNoMore r′ r → Left r′ Forms → Left r Forms → (d : ℕ) (s : Operand) → SharperComing (along a′ d s r′) (along a d s r)
-  unfolding along
-  leaves-sharper Excluded r l f′ f d s = tt
+  leaves-sharper Excluded r l f′ f d s = rw (along-excluded a′ d s) tt
   leaves-sharper (Possible x′ y′) Excluded l f′ f d s = absurd l
   leaves-sharper (Possible x′ y′) (Possible x y) l f′ f d s =
-      with-operand-sharper (having a′ d (Plain x′)) (having a d (Plain x))
+      rw (along-possible a′ d s x′ y′, along-possible a d s x y)
+      (with-operand-sharper (having a′ d (Plain x′)) (having a d (Plain x))
       (having-sharper a′ a h d (Plain x′) (Plain x) (record { narrower = l .0; sharper-form = f′ .0; form = f .0 })) s (Plain y′) (Plain y)
-      (record { narrower = l .1; sharper-form = f′ .1; form = f .1 })
+      (record { narrower = l .1; sharper-form = f′ .1; form = f .1 }))
 
   fork-sharper : (w : Width) (c : Comparison) (d : ℕ) (o : Operand) (target : ℕ) (x′ y′ x y : Value) → SharperValue x′ x → SharperValue y′ y → PossibleValue x′ → PossibleValue y′
       → SharperFlow (apply a′ (fork w c d o target x′ y′)) (apply a (fork w c d o target x y))
@@ -253,11 +254,6 @@ module _ (a′ a : Facts) (h : SharperFacts a′ a) where
   exit-sharper x′ (Plain m) s i = of-number (λ u. SharperFlow (apply a′ (exit u)) (apply a Stop)) m (λ m′ k e. (tt, tt)) x′ s i
 
 -- ---- memory
-limit-grows : (R S : ℕ) → R ≤ S → (p : Region) → limit R p ≤ limit S p
-unfolding limit
-limit-grows R S l Record = l
-limit-grows R S l Stack = omega arith
-
 -- fewer bytes are a smaller number
 loaded-sharper : (k′ k : ℕ) → k′ ≤ k → k ≤ 8 → SharperNumber (loaded k′) (loaded k)
 unfolding loaded everything

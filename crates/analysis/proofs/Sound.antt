@@ -46,6 +46,7 @@ use Rattle.analysis.specs.Values.{Facts, valueOf, operandOf}
 use Rattle.analysis.specs.Effects.{isNever, isMixed, reading, readingBoth, put, Role, copies, converts, adds, subtracts, calculates, role, calculate, sum, difference, arithmetic, limit, load, storeAt, store, told, fork, exit, effect}
 use Rattle.analysis.specs.Judged.{having, withOperand, along, Flow, refuses, flows, apply}
 use Rattle.analysis.specs.Safe.{Bytes}
+use Rattle.analysis.proofs.Literal.{along-possible}
 use Rattle.analysis.proofs.Told.{told-sound}
 use Rattle.analysis.proofs.LayoutFree.{Cell, unset, number, offset, Config, Course, stuck, ends, goes, cellOf, operandCell, putCell, copied, calculated, summed, subtracted, worked, region, loadedAt, loaded, storedAt, stored, jumpedTo, forked, exited, free}
 use Rattle.analysis.proofs.Meaning.{Stands, StandAll, Describes, Awaits, stand-get, stand-set, stand-learn}
@@ -204,27 +205,28 @@ module _ (a : Facts) (c : Config) (d : Describes a c) where
       record { registers = stand-learn (b .registers) (c .registers) r (Plain v) (e .registers) (rw q h); stack-size = e .stack-size; stack-bytes = e .stack-bytes }
 
   along-awaits : (r : ℕ) (s : Operand) (x y : ℕ) (o : Refined) → cellOf c r ≡ number x → operandCell c s ≡ number y → Kept o x y → Awaits (along a r s o) c
-  unfolding along having cellOf
+  unfolding having cellOf
   along-awaits r s x y Excluded p q h = absurd h
   along-awaits r s x y (Possible m n) p q h =
-      learn-operand _ s y n
+      rw (along-possible a r s m n)
+      (learn-operand _ s y n
       (record { registers = stand-learn (a .registers) (c .registers) r (Plain m) (d .registers) (rw p (h .0)); stack-size = d .stack-size; stack-bytes = d .stack-bytes })
-      q (h .1)
+      q (h .1))
 
   compare-follows : (w : Width) (k : Comparison) (r : ℕ) (s : Operand) (off : ℕ) (m n : Number) (x y : ℕ) → cellOf c r ≡ number x → operandCell c s ≡ number y → In m x → In n y
       → Follows (c .index) (apply a (Fork r s (told w k false m n) (told w k true m n) (c .index + 1 + off))) (jumpedTo (compare (bits w) k x y) c off)
-  unfolding apply jumpedTo along
+  unfolding apply jumpedTo
   compare-follows w k r s off m n x y p q h l = go (compare (bits w) k x y) refl
     where
-      same : (t : Bool) (j : ℕ) (o : Refined) → Awaits (along a r s o) c → Awaits (along a r s o) (record { registers = c .registers; stack = c .stack; index = j })
-      same t j Excluded e = e
-      same t j (Possible u v) e = record { registers = e .registers; stack-size = e .stack-size; stack-bytes = e .stack-bytes }
+      same : (j : ℕ) (o : Option Facts) → Awaits o c → Awaits o (record { registers = c .registers; stack = c .stack; index = j })
+      same j none e = e
+      same j (some b) e = record { registers = e .registers; stack-size = e .stack-size; stack-bytes = e .stack-bytes }
 
       go : (t : Bool) → compare (bits w) k x y ≡ t
           → Follows (c .index) (flows (along a r s (told w k false m n)) (along a r s (told w k true m n)) (c .index + 1 + off))
           (goes (record { registers = c .registers; stack = c .stack; index = cond t ((c .index + 1 + off) % 2 ^ 64) (c .index + 1) }))
-      go true e = inr (omega arith, refl, same true _ (told w k true m n) (along-awaits r s x y (told w k true m n) p q (told-sound w k true m n x y h l e)))
-      go false e = inl (refl, same false _ (told w k false m n) (along-awaits r s x y (told w k false m n) p q (told-sound w k false m n x y h l e)))
+      go true e = inr (omega arith, refl, same _ (along a r s (told w k true m n)) (along-awaits r s x y (told w k true m n) p q (told-sound w k true m n x y h l e)))
+      go false e = inl (refl, same _ (along a r s (told w k false m n)) (along-awaits r s x y (told w k false m n) p q (told-sound w k false m n x y h l e)))
 
   fork-follows : (w : Width) (k : Comparison) (r : ℕ) (s : Operand) (off : ℕ) (u v : Value) (x y : Cell) → cellOf c r ≡ x → operandCell c s ≡ y → Stands u x → Stands v y
       → Follows (c .index) (apply a (fork w k r s (c .index + 1 + off) u v)) (forked w k c off x y)

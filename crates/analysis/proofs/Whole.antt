@@ -24,6 +24,7 @@ use Rattle.analysis.specs.Effects.{effect}
 use Rattle.analysis.specs.Form.{instruction, HasForm}
 use Rattle.analysis.specs.Judged.{onValues, Flow, refuses, flows, apply, Waiting, nobody, arrive, Progress, halted, onward, send, andThen, distribute, visit, Walk, conclude, pass, followed, onPaths, onForm, judged}
 use Rattle.analysis.specs.Promise.{together, flowing, flow, knownFrom, known, Allows, LowestRefusal, Whole}
+use Rattle.analysis.proofs.Literal.{conclude-halted, conclude-onward}
 use Rattle.analysis.proofs.Annotated.{Unless}
 use Rattle.analysis.proofs.FormLaws.{orderly-passes}
 use Rattle.analysis.proofs.Paths.{connected-iff}
@@ -120,7 +121,7 @@ module _ (program : List ℕ) (R : ℕ) where
   module _ (form : HasForm program R) where
     pass-ends : (k i : ℕ) → i + k ≡ length program / 8 → (p : Waiting) (work : ℕ) → ((x : ℕ) → p x ≡ knownFrom program R i x) → ((j : ℕ) → j < i → Allows program R j)
         → Ended (pass program R k i p work) (pass program R k i p work .finding)
-    unfolding pass conclude known knownFrom
+    unfolding pass known knownFrom
     pass-ends zero i m p work same lower =
         let e : i ≡ length program / 8 = omega arith in
         (λ j l. lower j (omega arith), λ x. same x ∙ ap (λ n. knownFrom program R n x) e)
@@ -132,7 +133,7 @@ module _ (program : List ℕ) (R : ℕ) where
             → ((q : Waiting) (w : ℕ) → ((x : ℕ) → q x ≡ knownFrom program R (i + 1) x) → ((j : ℕ) → j < i + 1 → Allows program R j)
             → Ended (pass program R k (i + 1) q w) (pass program R k (i + 1) q w .finding))
             → Ended (conclude r i (pass program R k (i + 1))) (conclude r i (pass program R k (i + 1)) .finding)
-        go (halted reason q w) t b more = (
+        go (halted reason q w) t b more = rw (conclude-halted reason q w i (pass program R k (i + 1))) (
           record {
             inside = omega arith;
             refusal = record { facts = t .0; knows = sym (same i) ∙ t .1; refuses-it = t .2 };
@@ -141,7 +142,8 @@ module _ (program : List ℕ) (R : ℕ) where
           λ x. ap (λ f. f x) (t .3) ∙ same x,
         )
         go (onward q w) t b more =
-            more q w (λ x. rw add-one (b .0 x ∙ ap₂ (λ u v. flow program R i u x v) (same i) (same x))) (one-more i p same lower (b .1))
+            rw (conclude-onward q w i (pass program R k (i + 1)))
+            (more q w (λ x. rw add-one (b .0 x ∙ ap₂ (λ u v. flow program R i u x v) (same i) (same x))) (one-more i p same lower (b .1)))
 
     pub followed-ends : Ended (followed program R) (followed program R .finding)
     unfolding followed conclude knownFrom together nobody
