@@ -1,7 +1,7 @@
 # The C library, and where it is installed. rt proves the library before it compiles it.
 PREFIX ?= /usr/local
 DESTDIR ?=
-VERSION = 0.6.0
+VERSION = 0.7.0
 ARCHIVE = target/staticlib/libprobewarden.a
 
 all: $(ARCHIVE)
