@@ -21,11 +21,11 @@ use Rattle.number.specs.declared.Range.{Range}
 use Rattle.number.specs.declared.Number.{Number}
 use Rattle.number.specs.Meaning.{Within, In, RangeWithin, BitsWithin, Narrower}
 use Rattle.number.specs.Sharpen.{narrowed, sharpened, joinedRange, joinedNumber}
-use Rattle.number.specs.Computed.{block, modulo, second, computedRange, computed}
+use Rattle.number.specs.Computed.{block, modulo, second, computedRange, computed, NoneEmpty}
 use Rattle.number.proofs.Cases.{by-equal}
 use Rattle.number.proofs.Computing.{computed-sound}
 use Rattle.number.proofs.Known.{low-of-words}
-use Rattle.number.proofs.Operands.{block-of-more, Wide, base, base-is-power, second-is-modulo, modulo-in, modulo-below, second-below}
+use Rattle.number.proofs.Operands.{block-of-more, Wide, base, base-is-power, second-is-modulo, modulo-in, modulo-below, second-in, second-below}
 use Rattle.number.proofs.Outcomes.{Some}
 use Rattle.number.proofs.RangesInOrder.{Shrinks, block-shrinks, ranged-shrinks}
 use Rattle.number.proofs.Results.{wide-at-most-64}
@@ -103,14 +103,25 @@ module _ (w : ℕ) (wide : Wide w) (op : Operation) (a′ b′ a b : Number) (ga
       (calculated-inside w wide op (a′ .bits) (b′ .bits) (a .bits) (b .bits) (oa .form) (ob .form) ga gb (ha .bits) (hb .bits)) _ _
       (computed-range-shrinks .within)
 
--- ---- operands that have a number
-module _ (w : ℕ) (wide : Wide w) (op : Operation) (a′ b′ a b : Number) (ga : Well 64 (a .bits)) (gb : Well 64 (b .bits)) (ha : Narrower a′ a) (hb : Narrower b′ b)
-    (x y : ℕ) (i : In a′ x) (j : In b′ y) where
-  pub computed-in-order-of-members : Narrower (computed w op a′ b′) (computed w op a b)
-  computed-in-order-of-members =
-      let p = base-is-power w wide op in
-      computed-in-order w wide op a′ b′ a b ga gb ha hb (operand-of-member w (wide-at-most-64 w wide) a′ x i)
-      (subst (λ (m : ℕ). Operand m b′) (sym (p .2)) (operand-of-member (p .0) (p .1) b′ y j)) (some-in _ _ (computed-sound w wide op a′ b′ x y i j))
+-- ---- where no range is empty, so where each operand has a number
+module _ (w : ℕ) (wide : Wide w) (op : Operation) (a′ b′ a b : Number) (ga′ : Well 64 (a′ .bits)) (gb′ : Well 64 (b′ .bits)) (ga : Well 64 (a .bits))
+    (gb : Well 64 (b .bits)) (ha : Narrower a′ a) (hb : Narrower b′ b) where
+  pub computed-narrower : NoneEmpty w op a′ b′ → Narrower (computed w op a′ b′) (computed w op a b)
+  computed-narrower n =
+      computed-in-order w wide op a′ b′ a b ga gb ha hb (record { form = ga′; some = n .first; taken = n .first-taken })
+      (record { form = gb′; some = n .other; taken = subst Some (second-is-modulo w op b′) (n .other-taken) }) (n .result)
+
+pub none-empty-of-members : (w : ℕ) → Wide w → (op : Operation) (a b : Number) (x y : ℕ) → In a x → In b y → NoneEmpty w op a b
+none-empty-of-members w wide op a b x y i j =
+    let u = modulo-in w a (wide-at-most-64 w wide) x i in
+    let v = second-in w wide op b y j in
+    record {
+      first = some-in a x i;
+      first-taken = le-trans (u .low) (u .high);
+      other = some-in b y j;
+      other-taken = le-trans (v .low) (v .high);
+      result = some-in (computed w op a b) _ (computed-sound w wide op a b x y i j);
+    }
 
 -- ---- where paths join
 module _ (a′ b′ a b : Number) (ga′ : Well 64 (a′ .bits)) (gb′ : Well 64 (b′ .bits)) (ga : Well 64 (a .bits)) (gb : Well 64 (b .bits))
