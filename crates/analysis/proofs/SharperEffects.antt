@@ -49,7 +49,8 @@ use Rattle.analysis.proofs.SharperValues.{exact-itself, value-sharper, 
 use Rattle.analysis.proofs.Sound.{WordOperand, Words, wide}
 
 -- ---- numbers
-computed-sharper : (w : ℕ) → (w ≡ 64) ⊎ (w ≡ 32) → (op : Operation) (a′ b′ a b : Number) → SharperNumber a′ a → SharperNumber b′ b → NoneEmpty w op a′ b′
+computed-sharper : (w : ℕ) → (w ≡ 64) ⊎ (w ≡ 32) → (op : Operation) (a′ b′ a b : Number) → SharperNumber a′ a → SharperNumber b′ b
+    → NoneEmpty w op a′ b′
     → SharperNumber (computed w op a′ b′) (computed w op a b)
 computed-sharper w ww op a′ b′ a b h k n =
     record {
@@ -59,13 +60,15 @@ computed-sharper w ww op a′ b′ a b h k n =
     }
 
 -- what says no less than a number is one, and so of an address
-of-number : (P : Value → Type 0) (n : Number) → ((n′ : Number) → SharperNumber n′ n → P (Plain n′)) → (v : Value) → SharperValue v (Plain n) → P v
+of-number : (P : Value → Type 0) (n : Number) → ((n′ : Number) → SharperNumber n′ n → P (Plain n′)) → (v : Value) → SharperValue v (Plain n)
+    → P v
 of-number P n f (Unusable Never) s = absurd s
 of-number P n f (Unusable Mixed) s = absurd s
 of-number P n f (Plain m) s = f m s
 of-number P n f (Address p m) s = absurd s
 
-of-address : (P : Value → Type 0) (q : Region) (n : Number) → ((n′ : Number) → SharperNumber n′ n → P (Address q n′)) → (v : Value) → SharperValue v (Address q n) → P v
+of-address : (P : Value → Type 0) (q : Region) (n : Number) → ((n′ : Number) → SharperNumber n′ n → P (Address q n′)) → (v : Value)
+    → SharperValue v (Address q n) → P v
 of-address P q n f (Unusable Never) s = absurd s
 of-address P q n f (Unusable Mixed) s = absurd s
 of-address P q n f (Plain m) s = absurd s
@@ -91,7 +94,8 @@ unfolding told
 told-form Long = refined-form
 told-form Short = refined32-form
 
-told-in-order : (w : Width) (c : Comparison) (way : Bool) (m′ n′ m n : Number) → Well 64 (m′ .bits) → Well 64 (n′ .bits) → Well 64 (m .bits) → Well 64 (n .bits)
+told-in-order : (w : Width) (c : Comparison) (way : Bool) (m′ n′ m n : Number) → Well 64 (m′ .bits) → Well 64 (n′ .bits) → Well 64 (m .bits)
+    → Well 64 (n .bits)
     → Narrower m′ m → Narrower n′ n → LeavesNoMore (told w c way m′ n′) (told w c way m n)
 unfolding told
 told-in-order Long = refined-in-order
@@ -146,7 +150,8 @@ module _ (a′ a : Facts) (h : SharperFacts a′ a) where
       rw (u .0, v .0, u .1, v .1) k)
 
   -- ---- arithmetic
-  calculate-sharper : (w : ℕ) → (w ≡ 64) ⊎ (w ≡ 32) → (op : Operation) (d : ℕ) (x′ y′ x y : Value) → SharperValue x′ x → SharperValue y′ y → NoneEmptyOf w op x′ y′
+  calculate-sharper : (w : ℕ) → (w ≡ 64) ⊎ (w ≡ 32) → (op : Operation) (d : ℕ) (x′ y′ x y : Value) → SharperValue x′ x → SharperValue y′ y
+      → NoneEmptyOf w op x′ y′
       → SharperFlow (apply a′ (calculate w op d x′ y′)) (apply a (calculate w op d x y))
   unfolding calculate apply
   calculate-sharper w ww op d x′ y′ (Unusable g) y s t i = says-nothing (apply a′ (calculate w op d x′ y′)) LeaksAddress
@@ -154,7 +159,8 @@ module _ (a′ a : Facts) (h : SharperFacts a′ a) where
   calculate-sharper w ww op d x′ y′ (Plain m) (Unusable g) s t i = says-nothing (apply a′ (calculate w op d x′ y′)) LeaksAddress
   calculate-sharper w ww op d x′ y′ (Plain m) (Address q n) s t i = says-nothing (apply a′ (calculate w op d x′ y′)) LeaksAddress
   calculate-sharper w ww op d x′ y′ (Plain m) (Plain n) s t i =
-      let P : Value → Value → Type 0 = λ u v. NoneEmptyOf w op u v → SharperFlow (apply a′ (calculate w op d u v)) (apply a (calculate w op d (Plain m) (Plain n))) in
+      let P : Value → Value → Type 0 = λ u v. NoneEmptyOf w op u v → SharperFlow (apply a′ (calculate w op d u v))
+      (apply a (calculate w op d (Plain m) (Plain n))) in
       of-number (λ u. P u y′) m
       (λ m′ k. of-number (P (Plain m′)) n (λ n′ l e. put-sharper d _ _ (computed-sharper w ww op m′ n′ m n k l e)) y′ t) x′ s i
 
@@ -166,17 +172,22 @@ module _ (a′ a : Facts) (h : SharperFacts a′ a) where
   sum-sharper d x′ y′ (Address p m) (Unusable g) s t i = says-nothing (apply a′ (sum d x′ y′)) LeaksAddress
   sum-sharper d x′ y′ (Address p m) (Address q n) s t i = says-nothing (apply a′ (sum d x′ y′)) LeaksAddress
   sum-sharper d x′ y′ (Plain m) (Plain n) s t i =
-      let P : Value → Value → Type 0 = λ u v. NoneEmptyOf 64 Add u v → SharperFlow (apply a′ (sum d u v)) (apply a (sum d (Plain m) (Plain n))) in
+      let P : Value → Value → Type 0 = λ u v. NoneEmptyOf 64 Add u v → SharperFlow (apply a′ (sum d u v))
+      (apply a (sum d (Plain m) (Plain n))) in
       of-number (λ u. P u y′) m
       (λ m′ k. of-number (P (Plain m′)) n (λ n′ l e. put-sharper d _ _ (computed-sharper 64 (inl refl) Add m′ n′ m n k l e)) y′ t) x′ s i
   sum-sharper d x′ y′ (Plain m) (Address q n) s t i =
-      let P : Value → Value → Type 0 = λ u v. NoneEmptyOf 64 Add u v → SharperFlow (apply a′ (sum d u v)) (apply a (sum d (Plain m) (Address q n))) in
+      let P : Value → Value → Type 0 = λ u v. NoneEmptyOf 64 Add u v → SharperFlow (apply a′ (sum d u v))
+      (apply a (sum d (Plain m) (Address q n))) in
       of-number (λ u. P u y′) m
-      (λ m′ k. of-address (P (Plain m′)) q n (λ n′ l e. put-sharper d _ _ (refl, computed-sharper 64 (inl refl) Add n′ m′ n m l k e)) y′ t) x′ s i
+      (λ m′ k. of-address (P (Plain m′)) q n (λ n′ l e. put-sharper d _ _
+      (refl, computed-sharper 64 (inl refl) Add n′ m′ n m l k e)) y′ t) x′ s i
   sum-sharper d x′ y′ (Address p m) (Plain n) s t i =
-      let P : Value → Value → Type 0 = λ u v. NoneEmptyOf 64 Add u v → SharperFlow (apply a′ (sum d u v)) (apply a (sum d (Address p m) (Plain n))) in
+      let P : Value → Value → Type 0 = λ u v. NoneEmptyOf 64 Add u v → SharperFlow (apply a′ (sum d u v))
+      (apply a (sum d (Address p m) (Plain n))) in
       of-address (λ u. P u y′) p m
-      (λ m′ k. of-number (P (Address p m′)) n (λ n′ l e. put-sharper d _ _ (refl, computed-sharper 64 (inl refl) Add m′ n′ m n k l e)) y′ t) x′ s i
+      (λ m′ k. of-number (P (Address p m′)) n (λ n′ l e. put-sharper d _ _
+      (refl, computed-sharper 64 (inl refl) Add m′ n′ m n k l e)) y′ t) x′ s i
 
   difference-sharper : (d : ℕ) (x′ y′ x y : Value) → SharperValue x′ x → SharperValue y′ y → NoneEmptyOf 64 Sub x′ y′
       → SharperFlow (apply a′ (difference d x′ y′)) (apply a (difference d x y))
@@ -187,25 +198,31 @@ module _ (a′ a : Facts) (h : SharperFacts a′ a) where
   difference-sharper d x′ y′ (Address p m) (Unusable g) s t i = says-nothing (apply a′ (difference d x′ y′)) LeaksAddress
   difference-sharper d x′ y′ (Address p m) (Address q n) s t i = says-nothing (apply a′ (difference d x′ y′)) LeaksAddress
   difference-sharper d x′ y′ (Plain m) (Plain n) s t i =
-      let P : Value → Value → Type 0 = λ u v. NoneEmptyOf 64 Sub u v → SharperFlow (apply a′ (difference d u v)) (apply a (difference d (Plain m) (Plain n))) in
+      let P : Value → Value → Type 0 = λ u v. NoneEmptyOf 64 Sub u v → SharperFlow (apply a′ (difference d u v))
+      (apply a (difference d (Plain m) (Plain n))) in
       of-number (λ u. P u y′) m
       (λ m′ k. of-number (P (Plain m′)) n (λ n′ l e. put-sharper d _ _ (computed-sharper 64 (inl refl) Sub m′ n′ m n k l e)) y′ t) x′ s i
   difference-sharper d x′ y′ (Address p m) (Plain n) s t i =
-      let P : Value → Value → Type 0 = λ u v. NoneEmptyOf 64 Sub u v → SharperFlow (apply a′ (difference d u v)) (apply a (difference d (Address p m) (Plain n))) in
+      let P : Value → Value → Type 0 = λ u v. NoneEmptyOf 64 Sub u v → SharperFlow (apply a′ (difference d u v))
+      (apply a (difference d (Address p m) (Plain n))) in
       of-address (λ u. P u y′) p m
-      (λ m′ k. of-number (P (Address p m′)) n (λ n′ l e. put-sharper d _ _ (refl, computed-sharper 64 (inl refl) Sub m′ n′ m n k l e)) y′ t) x′ s i
+      (λ m′ k. of-number (P (Address p m′)) n (λ n′ l e. put-sharper d _ _
+      (refl, computed-sharper 64 (inl refl) Sub m′ n′ m n k l e)) y′ t) x′ s i
 
-  arithmetic-sharper : (e : Role) (w : ℕ) → (w ≡ 64) ⊎ (w ≡ 32) → (op : Operation) (d : ℕ) (x′ y′ x y : Value) → SharperValue x′ x → SharperValue y′ y
+  arithmetic-sharper : (e : Role) (w : ℕ) → (w ≡ 64) ⊎ (w ≡ 32) → (op : Operation) (d : ℕ) (x′ y′ x y : Value) → SharperValue x′ x
+      → SharperValue y′ y
       → CoherentAlu e w op x′ y′ → SharperFlow (apply a′ (arithmetic e w op d x′ y′)) (apply a (arithmetic e w op d x y))
   unfolding arithmetic
   arithmetic-sharper copies w ww op d x′ y′ x y s t i = reading-sharper y′ y _ _ t (put-sharper d y′ y t)
   arithmetic-sharper converts w ww op d x′ y′ x y s t i = reading-sharper y′ y _ _ t (calculate-sharper w ww op d y′ y′ y y t t i)
   arithmetic-sharper adds w ww op d x′ y′ x y s t i = reading-both-sharper x′ y′ x y _ _ s t (sum-sharper d x′ y′ x y s t i)
   arithmetic-sharper subtracts w ww op d x′ y′ x y s t i = reading-both-sharper x′ y′ x y _ _ s t (difference-sharper d x′ y′ x y s t i)
-  arithmetic-sharper calculates w ww op d x′ y′ x y s t i = reading-both-sharper x′ y′ x y _ _ s t (calculate-sharper w ww op d x′ y′ x y s t i)
+  arithmetic-sharper calculates w ww op d x′ y′ x y s t i =
+      reading-both-sharper x′ y′ x y _ _ s t (calculate-sharper w ww op d x′ y′ x y s t i)
 
   -- ---- jumps
-  leaves-sharper : (r′ r : Refined) → LeavesNoMore r′ r → Left r′ Forms → Left r Forms → (d : ℕ) (s : Operand) → SharperComing (along a′ d s r′) (along a d s r)
+  leaves-sharper : (r′ r : Refined) → LeavesNoMore r′ r → Left r′ Forms → Left r Forms → (d : ℕ) (s : Operand)
+      → SharperComing (along a′ d s r′) (along a d s r)
   unfolding along
   leaves-sharper Excluded r l f′ f d s = tt
   leaves-sharper (Possible x′ y′) Excluded l f′ f d s = absurd l
@@ -222,7 +239,8 @@ module _ (a′ a : Facts) (h : SharperFacts a′ a) where
   fork-sharper w c d o target x′ y′ (Plain m) (Unusable g) s t = says-nothing (apply a′ (fork w c d o target x′ y′)) LeaksAddress
   fork-sharper w c d o target x′ y′ (Plain m) (Address q n) s t = says-nothing (apply a′ (fork w c d o target x′ y′)) LeaksAddress
   fork-sharper w c d o target x′ y′ (Plain m) (Plain n) s t =
-      let P : Value → Value → Type 0 = λ u v. SharperFlow (apply a′ (fork w c d o target u v)) (apply a (fork w c d o target (Plain m) (Plain n))) in
+      let P : Value → Value → Type 0 = λ u v. SharperFlow (apply a′ (fork w c d o target u v))
+      (apply a (fork w c d o target (Plain m) (Plain n))) in
       of-number (λ u. P u y′) m
       (λ m′ k. of-number (P (Plain m′)) n
       (λ n′ l. (
@@ -230,7 +248,8 @@ module _ (a′ a : Facts) (h : SharperFacts a′ a) where
         there (along a′ d o (told w c true m′ n′)) (along a d o (told w c true m n)) target (way m′ n′ k l true),
       )) y′ t) x′ s
     where
-      way : (m′ n′ : Number) → SharperNumber m′ m → SharperNumber n′ n → (b : Bool) → SharperComing (along a′ d o (told w c b m′ n′)) (along a d o (told w c b m n))
+      way : (m′ n′ : Number) → SharperNumber m′ m → SharperNumber n′ n → (b : Bool)
+          → SharperComing (along a′ d o (told w c b m′ n′)) (along a d o (told w c b m n))
       way m′ n′ k l b =
           leaves-sharper (told w c b m′ n′) (told w c b m n)
           (told-in-order w c b m′ n′ m n (k .sharper-form) (l .sharper-form) (k .form) (l .form) (k .narrower) (l .narrower))
@@ -255,7 +274,8 @@ loaded-sharper k′ k l h =
     let n : 2 ^ (8 * k′) ≤ 2 ^ (8 * k) = pow-mono {i = 8 * k′} {j = 8 * k} (omega arith) in
     record {
       narrower = record {
-        bits = among-inside 64 (2 ^ (8 * k′) - 1) (2 ^ (8 * k) - 1) (ones-cover-all-below (8 * k) (2 ^ (8 * k′) - 1) (omega (arith, pow-pos (8 * k′))));
+        bits = among-inside 64 (2 ^ (8 * k′) - 1) (2 ^ (8 * k) - 1)
+            (ones-cover-all-below (8 * k) (2 ^ (8 * k′) - 1) (omega (arith, pow-pos (8 * k′))));
         range = record { low = omega arith; high = omega arith };
       };
       sharper-form = loaded-in k′ (omega arith) 0 (pow-pos (8 * k′)) .form;
@@ -269,26 +289,31 @@ fits-stays n′ n size′ size m′ m h l k t =
     le-leb (n′ .range .hi + size′) m′ (omega (arith, leb-true (n .range .hi + size) m t, h .range .high))
 
 module _ (a′ a : Facts) (h : SharperFacts a′ a) (R S : ℕ) (longer : R ≤ S) (off : ℕ) (word : off < 2 ^ 64) where
-  moved-sharper : (m′ m : Number) → SharperNumber m′ m → NoneEmpty 64 Add m′ (exact off) → SharperNumber (computed 64 Add m′ (exact off)) (computed 64 Add m (exact off))
+  moved-sharper : (m′ m : Number) → SharperNumber m′ m → NoneEmpty 64 Add m′ (exact off)
+      → SharperNumber (computed 64 Add m′ (exact off)) (computed 64 Add m (exact off))
   moved-sharper m′ m k e = computed-sharper 64 (inl refl) Add m′ (exact off) m (exact off) k (exact-itself off word) e
 
   -- where less is known the access is allowed, so it is where more is known
-  if-it-fits : (n′ n : Number) (size′ size m′ m : ℕ) (e′ e : Effect) → Narrower n′ n → size′ ≤ size → m ≤ m′ → SharperFlow (apply a′ e′) (apply a e)
+  if-it-fits : (n′ n : Number) (size′ size m′ m : ℕ) (e′ e : Effect) → Narrower n′ n → size′ ≤ size → m ≤ m′
+      → SharperFlow (apply a′ e′) (apply a e)
       → SharperFlow (apply a′ (cond (fits n′ size′ m′) e′ (Refuse Outside))) (apply a (cond (fits n size m) e (Refuse Outside)))
   unfolding apply
   if-it-fits n′ n size′ size m′ m e′ e k l g s = go (fits n size m) refl
     where
-      go : (t : Bool) → fits n size m ≡ t → SharperFlow (apply a′ (cond (fits n′ size′ m′) e′ (Refuse Outside))) (apply a (cond t e (Refuse Outside)))
+      go : (t : Bool) → fits n size m ≡ t
+          → SharperFlow (apply a′ (cond (fits n′ size′ m′) e′ (Refuse Outside))) (apply a (cond t e (Refuse Outside)))
       go true q = rw (fits-stays n′ n size′ size m′ m k l g q) s
       go false q = says-nothing a′ a h (apply a′ (cond (fits n′ size′ m′) e′ (Refuse Outside))) Outside
 
-  load-sharper : (size′ size d : ℕ) → size′ ≤ size → size ≤ 8 → (x′ x : Value) → SharperValue x′ x → NoneEmptyOf 64 Add x′ (Plain (exact off))
+  load-sharper : (size′ size d : ℕ) → size′ ≤ size → size ≤ 8 → (x′ x : Value) → SharperValue x′ x
+      → NoneEmptyOf 64 Add x′ (Plain (exact off))
       → SharperFlow (apply a′ (load S size′ d off x′)) (apply a (load R size d off x))
   unfolding load apply
   load-sharper size′ size d l g x′ (Unusable r) s i = says-nothing a′ a h (apply a′ (load S size′ d off x′)) Outside
   load-sharper size′ size d l g x′ (Plain m) s i = says-nothing a′ a h (apply a′ (load S size′ d off x′)) Outside
   load-sharper size′ size d l g x′ (Address p m) s i =
-      of-address (λ u. NoneEmptyOf 64 Add u (Plain (exact off)) → SharperFlow (apply a′ (load S size′ d off u)) (apply a (load R size d off (Address p m)))) p m
+      of-address (λ u. NoneEmptyOf 64 Add u (Plain (exact off)) → SharperFlow (apply a′ (load S size′ d off u))
+      (apply a (load R size d off (Address p m)))) p m
       (λ m′ k e. if-it-fits _ _ size′ size (limit S p) (limit R p) _ _ (moved-sharper m′ m k e .narrower) l (limit-grows R S longer p)
       (put-sharper a′ a h d (Plain (loaded size′)) (Plain (loaded size)) (loaded-sharper size′ size l g))) x′ s i
 
@@ -299,7 +324,8 @@ module _ (a′ a : Facts) (h : SharperFacts a′ a) (R S : ℕ) (longer : R ≤ 
   storeAt-sharper size x′ (Plain m) s i = says-nothing a′ a h (apply a′ (storeAt size off x′)) Outside
   storeAt-sharper size x′ (Address Record m) s i = says-nothing a′ a h (apply a′ (storeAt size off x′)) Outside
   storeAt-sharper size x′ (Address Stack m) s i =
-      of-address (λ u. NoneEmptyOf 64 Add u (Plain (exact off)) → SharperFlow (apply a′ (storeAt size off u)) (apply a (storeAt size off (Address Stack m)))) Stack m
+      of-address (λ u. NoneEmptyOf 64 Add u (Plain (exact off)) → SharperFlow (apply a′ (storeAt size off u))
+      (apply a (storeAt size off (Address Stack m)))) Stack m
       (λ m′ k e. if-it-fits _ _ size size 512 512 Keep Keep (moved-sharper m′ m k e .narrower) (omega arith) (omega arith) (h, tt)) x′ s i
 
   store-sharper : (size : ℕ) (x′ y′ x y : Value) → SharperValue x′ x → SharperValue y′ y → NoneEmptyOf 64 Add x′ (Plain (exact off))
@@ -308,7 +334,8 @@ module _ (a′ a : Facts) (h : SharperFacts a′ a) (R S : ℕ) (longer : R ≤ 
   store-sharper size x′ y′ x (Unusable g) s t i = says-nothing a′ a h (apply a′ (store size off x′ y′)) LeaksAddress
   store-sharper size x′ y′ x (Address q n) s t i = says-nothing a′ a h (apply a′ (store size off x′ y′)) LeaksAddress
   store-sharper size x′ y′ x (Plain n) s t i =
-      of-number (λ v. SharperFlow (apply a′ (store size off x′ v)) (apply a (storeAt size off x))) n (λ n′ k. storeAt-sharper size x′ x s i) y′ t
+      of-number (λ v. SharperFlow (apply a′ (store size off x′ v)) (apply a (storeAt size off x))) n
+      (λ n′ k. storeAt-sharper size x′ x s i) y′ t
 
 -- ---- every instruction
 operand-sharper : (a′ a : Facts) → SharperFacts a′ a → (o : Operand) → WordOperand o → SharperValue (operandOf a′ o) (operandOf a o)
@@ -337,7 +364,8 @@ unfolding effect apply
 same-tells-more R S i l (Alu w op d o) ok a′ a h p =
     arithmetic-sharper a′ a h (role w op) (bits w) (wide w) op d _ _ _ _ (value-sharper a′ a h d) (operand-sharper a′ a h o ok) p
 same-tells-more R S i l (Neg w d) ok a′ a h p =
-    let s = value-sharper a′ a h d in reading-sharper a′ a h _ _ _ _ s (calculate-sharper a′ a h (bits w) (wide w) operation.Neg d _ _ _ _ s s p)
+    let s = value-sharper a′ a h d in reading-sharper a′ a h _ _ _ _ s
+    (calculate-sharper a′ a h (bits w) (wide w) operation.Neg d _ _ _ _ s s p)
 same-tells-more R S i l (Jump w c d o off) ok a′ a h p =
     let s = value-sharper a′ a h d in
     let t = operand-sharper a′ a h o ok in
@@ -361,7 +389,8 @@ none-empty w ww op (Address p a) (Unusable h) i j = tt
 none-empty w ww op (Address p a) (Plain b) i j = none-empty-of-members w ww op a b (i .0) (j .0) (i .1) (j .1)
 none-empty w ww op (Address p a) (Address q b) i j = tt
 
-possible-role : (e : Role) (w : ℕ) → (w ≡ 64) ⊎ (w ≡ 32) → (op : Operation) (x y : Value) → PossibleValue x → PossibleValue y → CoherentAlu e w op x y
+possible-role : (e : Role) (w : ℕ) → (w ≡ 64) ⊎ (w ≡ 32) → (op : Operation) (x y : Value) → PossibleValue x → PossibleValue y
+    → CoherentAlu e w op x y
 possible-role copies w ww op x y i j = tt
 possible-role converts w ww op x y i j = none-empty w ww op y y j j
 possible-role adds w ww op x y i j = none-empty 64 (inl refl) Add x y i j
@@ -374,11 +403,14 @@ possible-operand a p (Immediate n) w = (n, exact-in n w)
 possible-operand a p (Register r) w = p .each r
 
 pub possible-is-coherent : (a : Facts) (ins : Instruction) → Words ins → PossibleFacts a → Coherent a ins
-possible-is-coherent a (Alu w op d o) ok p = possible-role (role w op) (bits w) (wide w) op (valueOf a d) (operandOf a o) (p .each d) (possible-operand a p o ok)
+possible-is-coherent a (Alu w op d o) ok p =
+    possible-role (role w op) (bits w) (wide w) op (valueOf a d) (operandOf a o) (p .each d) (possible-operand a p o ok)
 possible-is-coherent a (Neg w d) ok p = none-empty (bits w) (wide w) operation.Neg (valueOf a d) (valueOf a d) (p .each d) (p .each d)
 possible-is-coherent a (Jump w c d o off) ok p = tt
 possible-is-coherent a (Always off) ok p = tt
 possible-is-coherent a Exit ok p = tt
-possible-is-coherent a (Load z d r off) ok p = none-empty 64 (inl refl) Add (valueOf a r) (Plain (exact off)) (p .each r) (off, exact-in off ok)
-possible-is-coherent a (Store z d off o) ok p = none-empty 64 (inl refl) Add (valueOf a d) (Plain (exact off)) (p .each d) (off, exact-in off (ok .0))
+possible-is-coherent a (Load z d r off) ok p =
+    none-empty 64 (inl refl) Add (valueOf a r) (Plain (exact off)) (p .each r) (off, exact-in off ok)
+possible-is-coherent a (Store z d off o) ok p =
+    none-empty 64 (inl refl) Add (valueOf a d) (Plain (exact off)) (p .each d) (off, exact-in off (ok .0))
 possible-is-coherent a NoInstruction ok p = tt

@@ -1,5 +1,5 @@
--- Knowing more never hurts a program: one of the same length each of whose instructions tells no less than the other's is accepted where the
--- other is, as long as no range is empty that it calculates with; so where what is known at each of its indices is possible.
+-- Knowing more never hurts a program: one of the same length each of whose instructions tells no less than the other's is accepted where
+-- the other is, as long as no range is empty that it calculates with; so where what is known at each of its indices is possible.
 use mathlib.Core.Path.{_≡_, refl, sym, ap, _∙_, subst}
 use mathlib.Core.Bool.{Bool, true, false, cond}
 use mathlib.Core.List.{List}
@@ -32,7 +32,8 @@ cond-sharper : (t : Bool) (o′ o : Option Facts) → SharperComing o′ o → S
 cond-sharper true o′ o h = h
 cond-sharper false o′ o h = tt
 
-there-sharper : (j t′ t : ℕ) (o′ o : Option Facts) → SharperThere o′ t′ o t → SharperComing (cond (eqb j t′) o′ none) (cond (eqb j t) o none)
+there-sharper : (j t′ t : ℕ) (o′ o : Option Facts) → SharperThere o′ t′ o t
+    → SharperComing (cond (eqb j t′) o′ none) (cond (eqb j t) o none)
 there-sharper j t′ t none o h = none-first (eqb j t′) (cond (eqb j t) o none)
   where
     none-first : (b : Bool) (o : Option Facts) → SharperComing (cond b none none) o
@@ -43,7 +44,8 @@ there-sharper j t′ t (some a′) (some a) h = rw (h .1) (cond-sharper (eqb j t
 
 -- joined to what was known, and what was known is not forgotten
 module _ (i j : ℕ) (w′ w : Option Facts) (ew : Eleven w) (h : SharperComing w′ w) where
-  flowing-sharper : (f′ f : Flow) → ElevenFlow f → SharperFlow f′ f → ((reason : Reason) → f ≡ refuses reason → ⊥) → SharperComing (flowing i j f′ w′) (flowing i j f w)
+  flowing-sharper : (f′ f : Flow) → ElevenFlow f → SharperFlow f′ f → ((reason : Reason) → f ≡ refuses reason → ⊥)
+      → SharperComing (flowing i j f′ w′) (flowing i j f w)
   unfolding flowing
   flowing-sharper f′ (refuses reason) e s n = absurd (n reason refl)
   flowing-sharper (refuses r) (flows next there target) e s n = absurd s
@@ -58,7 +60,8 @@ module _ (i j : ℕ) (w′ w : Option Facts) (ew : Eleven w) (h : SharperComing 
   flowing-keeps (flows next there target) e =
       let n = cond (eqb j (i + 1)) next none in
       let en = cond-eleven (eqb j (i + 1)) next (e .0) in
-      together-sharper w′ none (together w n) (cond (eqb j target) there none) (together-eleven w n ew en) (cond-eleven (eqb j target) there (e .1))
+      together-sharper w′ none (together w n) (cond (eqb j target) there none) (together-eleven w n ew en)
+      (cond-eleven (eqb j target) there (e .1))
       (together-sharper w′ none w n ew en h tt) tt
 
 -- ---- two programs
@@ -74,11 +77,13 @@ apply-refuses a Stop reason q = absurd (let z : _≡_ {A = ℕ} 0 1 = cc in omeg
 module _ (old new : List ℕ) (R S n : ℕ) (allowed : (j : ℕ) → j < n → Allows old R j)
     (more : (i : ℕ) → i < n → TellsMore R S i (instruction new i) (instruction old i))
     (coherent : (j : ℕ) → j < n → (a : Facts) → known new S j ≡ some a → Coherent a (instruction new j)) where
-  not-refused : (i : ℕ) → i < n → (a : Facts) → knownFrom old R i i ≡ some a → (reason : Reason) → apply a (effect R i a (instruction old i)) ≡ refuses reason → ⊥
+  not-refused : (i : ℕ) → i < n → (a : Facts) → knownFrom old R i i ≡ some a → (reason : Reason)
+      → apply a (effect R i a (instruction old i)) ≡ refuses reason → ⊥
   unfolding known
   not-refused i l a e reason q = allowed i l reason (record { facts = a; knows = e; refuses-it = apply-refuses a _ reason q })
 
-  flow-sharper : (i : ℕ) → i < n → (o′ o : Option Facts) → knownFrom new S i i ≡ o′ → knownFrom old R i i ≡ o → SharperComing o′ o → (j : ℕ) (w′ w : Option Facts) → Eleven w
+  flow-sharper : (i : ℕ) → i < n → (o′ o : Option Facts) → knownFrom new S i i ≡ o′ → knownFrom old R i i ≡ o → SharperComing o′ o
+      → (j : ℕ) (w′ w : Option Facts) → Eleven w
       → SharperComing w′ w → SharperComing (flow new S i o′ j w′) (flow old R i o j w)
   unfolding flow known
   flow-sharper i l none none p q s j w′ w ew h = h
@@ -94,18 +99,21 @@ module _ (old new : List ℕ) (R S n : ℕ) (allowed : (j : ℕ) → j < n → A
   unfolding knownFrom
   known-sharper zero l j = cond-sharper (eqb j 0) (some startFacts) (some startFacts) start-sharper
   known-sharper (suc i) l j =
-      flow-sharper i (omega arith) _ _ refl refl (known-sharper i (omega arith) i) j _ _ (known-eleven old R i j) (known-sharper i (omega arith) j)
+      flow-sharper i (omega arith) _ _ refl refl (known-sharper i (omega arith) i) j _ _ (known-eleven old R i j)
+      (known-sharper i (omega arith) j)
 
   -- so nothing is refused
   allows-sharper : (j : ℕ) → j < n → Allows new S j
   unfolding known apply
-  allows-sharper j l reason r = go (knownFrom old R j j) refl (subst (λ o. SharperComing o (knownFrom old R j j)) (r .knows) (known-sharper j (omega arith) j))
+  allows-sharper j l reason r =
+      go (knownFrom old R j j) refl (subst (λ o. SharperComing o (knownFrom old R j j)) (r .knows) (known-sharper j (omega arith) j))
     where
       go : (o : Option Facts) → knownFrom old R j j ≡ o → SharperComing (some (r .facts)) o → ⊥
       go none q s = s
       go (some a) q s =
           contradiction (apply a (effect R j a (instruction old j))) (not-refused j l a q)
-          (subst (λ e. SharperFlow (apply (r .facts) e) (apply a (effect R j a (instruction old j)))) (r .refuses-it) (more j l (r .facts) a s (coherent j l (r .facts) (r .knows))))
+          (subst (λ e. SharperFlow (apply (r .facts) e) (apply a (effect R j a (instruction old j)))) (r .refuses-it)
+          (more j l (r .facts) a s (coherent j l (r .facts) (r .knows))))
         where
           contradiction : (f : Flow) → ((reason : Reason) → f ≡ refuses reason → ⊥) → SharperFlow (apply (r .facts) (Refuse reason)) f → ⊥
           contradiction (refuses s) m k = m s refl
@@ -118,11 +126,16 @@ pub accepted-with-more-told : (old new : List ℕ) (R S : ℕ) → judged old R 
     → judged new S .finding ≡ Accepted
 accepted-with-more-told old new R S e form same more coherent =
     let all = accepted-exactly old R .0 e .1 in
-    accepted-exactly new S .1 (form, allows-sharper old new R S (length new / 8) (λ j l. all j (subst (λ (k : ℕ). j < k / 8) same l)) more coherent)
+    accepted-exactly new S .1 (
+      form,
+      allows-sharper old new R S (length new / 8)
+          (λ j l. all j (subst (λ (k : ℕ). j < k / 8) same l)) more coherent,
+    )
 
 -- so where one instruction is replaced by one that tells more
 module _ (old new : List ℕ) (R k : ℕ) (e : judged old R .finding ≡ Accepted) (form : HasForm new R) (same : length new ≡ length old)
-    (others : (i : ℕ) → (i ≡ k → ⊥) → instruction new i ≡ instruction old i) (this : TellsMore R R k (instruction new k) (instruction old k)) where
+    (others : (i : ℕ) → (i ≡ k → ⊥) → instruction new i ≡ instruction old i)
+    (this : TellsMore R R k (instruction new k) (instruction old k)) where
   each-tells-more : (i : ℕ) → TellsMore R R i (instruction new i) (instruction old i)
   each-tells-more i = go (ℕ-discrete i k)
     where
@@ -132,11 +145,12 @@ module _ (old new : List ℕ) (R k : ℕ) (e : judged old R .finding ≡ Accepte
           subst (λ (ins : Instruction). TellsMore R R i ins (instruction old i)) (sym (others i q))
           (same-tells-more R R i (omega arith) (instruction old i) (instruction-words old i))
 
-  pub accepted-with-one-that-tells-more : ((j : ℕ) → j < length new / 8 → (a : Facts) → known new R j ≡ some a → Coherent a (instruction new j))
-      → judged new R .finding ≡ Accepted
+  pub accepted-with-one-that-tells-more :
+      ((j : ℕ) → j < length new / 8 → (a : Facts) → known new R j ≡ some a → Coherent a (instruction new j)) → judged new R .finding ≡ Accepted
   accepted-with-one-that-tells-more = accepted-with-more-told old new R R e form same (λ i l. each-tells-more i)
 
   -- and where what is known at each index is possible
-  pub accepted-where-possible : ((j : ℕ) → j < length new / 8 → (a : Facts) → known new R j ≡ some a → PossibleFacts a) → judged new R .finding ≡ Accepted
+  pub accepted-where-possible : ((j : ℕ) → j < length new / 8 → (a : Facts) → known new R j ≡ some a → PossibleFacts a)
+      → judged new R .finding ≡ Accepted
   accepted-where-possible possible =
       accepted-with-one-that-tells-more (λ j l a q. possible-is-coherent a (instruction new j) (instruction-words new j) (possible j l a q))
