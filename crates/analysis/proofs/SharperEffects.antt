@@ -28,9 +28,9 @@ use Rattle.known_bits.proofs.Inside.{among-inside}
 use Rattle.number.specs.declared.Number.{Number}
 use Rattle.number.specs.declared.Refined.{Refined}
 use Rattle.number.specs.declared.Refined.the-variants.{Excluded, Possible}
-use Rattle.number.specs.Meaning.{In, Narrower, Left, LeavesNoMore}
+use Rattle.number.specs.Meaning.{In, Narrower, NoneEmpty, Left, LeavesNoMore}
 use Rattle.number.specs.Sharpen.{exact, loaded, everything}
-use Rattle.number.specs.Computed.{computed, NoneEmpty, fits}
+use Rattle.number.specs.Computed.{computed, fits}
 use Rattle.number.proofs.Laws.{exact-in, loaded-in, computed-form, computed-narrower, none-empty-of-members, refined-form, refined32-form, refined-in-order, refined32-in-order}
 use Rattle.analysis.specs.declared.Reason.{Reason}
 use Rattle.analysis.specs.declared.Reason.the-variants.{WritesR10, ReadsUnset, Outside, LeaksAddress}

@@ -12,9 +12,8 @@ use Rattle.machine.specs.declared.instruction.Instruction.the-variants.{Alu, Ne
 use Rattle.machine.specs.Machine.{bits}
 use Rattle.known_bits.specs.KnownBits.{Well}
 use Rattle.number.specs.declared.Number.{Number}
-use Rattle.number.specs.Meaning.{In, Narrower}
+use Rattle.number.specs.Meaning.{In, Narrower, NoneEmpty}
 use Rattle.number.specs.Sharpen.{exact}
-use Rattle.number.specs.Computed.{NoneEmpty}
 use Rattle.analysis.specs.declared.Gone.the-variants.{Never, Mixed}
 use Rattle.analysis.specs.declared.Value.{Value}
 use Rattle.analysis.specs.declared.Value.the-variants.{Unusable, Plain, Address}

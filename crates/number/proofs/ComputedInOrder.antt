@@ -19,9 +19,9 @@ use Rattle.known_bits.proofs.Laws.{mem-bounds}
 use Rattle.known_bits.proofs.Tight.{mem-least, mem-top, mem-low, mem-high}
 use Rattle.number.specs.declared.Range.{Range}
 use Rattle.number.specs.declared.Number.{Number}
-use Rattle.number.specs.Meaning.{Within, In, RangeWithin, BitsWithin, Narrower}
+use Rattle.number.specs.Meaning.{Within, In, RangeWithin, BitsWithin, Narrower, NoneEmpty}
 use Rattle.number.specs.Sharpen.{narrowed, sharpened, joinedRange, joinedNumber}
-use Rattle.number.specs.Computed.{block, modulo, second, computedRange, computed, NoneEmpty}
+use Rattle.number.specs.Computed.{block, modulo, second, computedRange, computed}
 use Rattle.number.proofs.Cases.{by-equal}
 use Rattle.number.proofs.Computing.{computed-sound}
 use Rattle.number.proofs.Known.{low-of-words}

@@ -1,7 +1,7 @@
 -- Each operation of the machine on Numbers, at 64 bits (class 7) and at 32 (class 4): the known bits of `known_bits`, the range of the
 -- operands cut to the width, and each sharpens the other.
 use mathlib.Core.Bool.{Bool, cond}
-use Prim.Native.Nat.{ℕ, _+_, _-_, _/_, _%_, _^_, _≤_, min, max}
+use Prim.Native.Nat.{ℕ, _+_, _-_, _/_, _%_, _^_, min, max}
 use lib.Dec.{eqb, leb}
 use Rattle.word.specs.declared.Operation.{Operation}
 use Rattle.word.specs.declared.Operation.the-variants.{Add, Sub, Mul, Div, Or, And, Lsh, Rsh, Neg, Mod, Xor, Mov, Arsh}
@@ -46,14 +46,6 @@ computedRange w op a b = block (2 ^ w) (ranged w op (modulo (2 ^ w) a) (second w
 
 unfoldable pub computed : ℕ → Operation → Number → Number → Number
 computed w op a b = sharpened (calculated w op (a .bits) (b .bits)) (computedRange w op a b)
-
--- no range on the way is empty: of an operand, of what the operation takes of it, of the result. So it is where each operand has a number
-pub record NoneEmpty (w : ℕ) (op : Operation) (a b : Number) : Type 0 where
-  pub first : a .range .lo ≤ a .range .hi
-  pub first-taken : modulo (2 ^ w) a .lo ≤ modulo (2 ^ w) a .hi
-  pub other : b .range .lo ≤ b .range .hi
-  pub other-taken : second w op b .lo ≤ second w op b .hi
-  pub result : computed w op a b .range .lo ≤ computed w op a b .range .hi
 
 -- size bytes at each of these offsets lie below a limit
 unfoldable pub fits : Number → ℕ → ℕ → Bool
