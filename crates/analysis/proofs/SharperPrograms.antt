@@ -1,5 +1,5 @@
--- Knowing more never hurts a program: one of the same length each of whose instructions tells no less than the other's is accepted where the
--- other is, as long as what is known at each of its indices is possible.
+-- Knowing more never hurts a program: one of the same length each of whose instructions tells no less than the other's is accepted where
+-- the other is, as long as no range is empty that it calculates with; so where what is known at each of its indices is possible.
 use mathlib.Core.Path.{_≡_, refl, sym, ap, _∙_, subst}
 use mathlib.Core.Bool.{Bool, true, false, cond}
 use mathlib.Core.List.{List}
@@ -20,10 +20,10 @@ use Rattle.analysis.specs.Effects.{effect}
 use Rattle.analysis.specs.Form.{instruction, HasForm}
 use Rattle.analysis.specs.Judged.{Flow, refuses, flows, apply, judged}
 use Rattle.analysis.specs.Promise.{together, flowing, flow, knownFrom, known, Allows}
-use Rattle.analysis.specs.Sharper.{SharperFacts, SharperComing, SharperThere, SharperFlow, PossibleFacts, TellsMore}
+use Rattle.analysis.specs.Sharper.{SharperFacts, SharperComing, SharperThere, SharperFlow, Coherent, TellsMore, PossibleFacts}
 use Rattle.analysis.proofs.Annotated.{instruction-words}
 use Rattle.analysis.proofs.Eleven.{Eleven, ElevenFlow, together-eleven, cond-eleven, apply-eleven, known-eleven}
-use Rattle.analysis.proofs.SharperEffects.{same-tells-more}
+use Rattle.analysis.proofs.SharperEffects.{same-tells-more, possible-is-coherent}
 use Rattle.analysis.proofs.SharperValues.{together-sharper, start-sharper}
 use Rattle.analysis.proofs.Whole.{accepted-exactly}
 
@@ -32,7 +32,8 @@ cond-sharper : (t : Bool) (o′ o : Option Facts) → SharperComing o′ o → S
 cond-sharper true o′ o h = h
 cond-sharper false o′ o h = tt
 
-there-sharper : (j t′ t : ℕ) (o′ o : Option Facts) → SharperThere o′ t′ o t → SharperComing (cond (eqb j t′) o′ none) (cond (eqb j t) o none)
+there-sharper : (j t′ t : ℕ) (o′ o : Option Facts) → SharperThere o′ t′ o t
+    → SharperComing (cond (eqb j t′) o′ none) (cond (eqb j t) o none)
 there-sharper j t′ t none o h = none-first (eqb j t′) (cond (eqb j t) o none)
   where
     none-first : (b : Bool) (o : Option Facts) → SharperComing (cond b none none) o
@@ -43,7 +44,8 @@ there-sharper j t′ t (some a′) (some a) h = rw (h .1) (cond-sharper (eqb j t
 
 -- joined to what was known, and what was known is not forgotten
 module _ (i j : ℕ) (w′ w : Option Facts) (ew : Eleven w) (h : SharperComing w′ w) where
-  flowing-sharper : (f′ f : Flow) → ElevenFlow f → SharperFlow f′ f → ((reason : Reason) → f ≡ refuses reason → ⊥) → SharperComing (flowing i j f′ w′) (flowing i j f w)
+  flowing-sharper : (f′ f : Flow) → ElevenFlow f → SharperFlow f′ f → ((reason : Reason) → f ≡ refuses reason → ⊥)
+      → SharperComing (flowing i j f′ w′) (flowing i j f w)
   unfolding flowing
   flowing-sharper f′ (refuses reason) e s n = absurd (n reason refl)
   flowing-sharper (refuses r) (flows next there target) e s n = absurd s
@@ -58,7 +60,8 @@ module _ (i j : ℕ) (w′ w : Option Facts) (ew : Eleven w) (h : SharperComing 
   flowing-keeps (flows next there target) e =
       let n = cond (eqb j (i + 1)) next none in
       let en = cond-eleven (eqb j (i + 1)) next (e .0) in
-      together-sharper w′ none (together w n) (cond (eqb j target) there none) (together-eleven w n ew en) (cond-eleven (eqb j target) there (e .1))
+      together-sharper w′ none (together w n) (cond (eqb j target) there none) (together-eleven w n ew en)
+      (cond-eleven (eqb j target) there (e .1))
       (together-sharper w′ none w n ew en h tt) tt
 
 -- ---- two programs
@@ -73,12 +76,14 @@ apply-refuses a Stop reason q = absurd (let z : _≡_ {A = ℕ} 0 1 = cc in omeg
 
 module _ (old new : List ℕ) (R S n : ℕ) (allowed : (j : ℕ) → j < n → Allows old R j)
     (more : (i : ℕ) → i < n → TellsMore R S i (instruction new i) (instruction old i))
-    (possible : (j : ℕ) → j < n → (a : Facts) → known new S j ≡ some a → PossibleFacts a) where
-  not-refused : (i : ℕ) → i < n → (a : Facts) → knownFrom old R i i ≡ some a → (reason : Reason) → apply a (effect R i a (instruction old i)) ≡ refuses reason → ⊥
+    (coherent : (j : ℕ) → j < n → (a : Facts) → known new S j ≡ some a → Coherent a (instruction new j)) where
+  not-refused : (i : ℕ) → i < n → (a : Facts) → knownFrom old R i i ≡ some a → (reason : Reason)
+      → apply a (effect R i a (instruction old i)) ≡ refuses reason → ⊥
   unfolding known
   not-refused i l a e reason q = allowed i l reason (record { facts = a; knows = e; refuses-it = apply-refuses a _ reason q })
 
-  flow-sharper : (i : ℕ) → i < n → (o′ o : Option Facts) → knownFrom new S i i ≡ o′ → knownFrom old R i i ≡ o → SharperComing o′ o → (j : ℕ) (w′ w : Option Facts) → Eleven w
+  flow-sharper : (i : ℕ) → i < n → (o′ o : Option Facts) → knownFrom new S i i ≡ o′ → knownFrom old R i i ≡ o → SharperComing o′ o
+      → (j : ℕ) (w′ w : Option Facts) → Eleven w
       → SharperComing w′ w → SharperComing (flow new S i o′ j w′) (flow old R i o j w)
   unfolding flow known
   flow-sharper i l none none p q s j w′ w ew h = h
@@ -87,48 +92,65 @@ module _ (old new : List ℕ) (R S n : ℕ) (allowed : (j : ℕ) → j < n → A
   flow-sharper i l (some a′) none p q s j w′ w ew h = absurd s
   flow-sharper i l (some a′) (some a) p q s j w′ w ew h =
       flowing-sharper i j w′ w ew h _ _ (apply-eleven a (effect R i a (instruction old i)) (subst Eleven q (known-eleven old R i i)))
-      (more i l a′ a s (possible i l a′ p)) (not-refused i l a q)
+      (more i l a′ a s (coherent i l a′ p)) (not-refused i l a q)
 
   -- at each index no less is known
   pub known-sharper : (i : ℕ) → i ≤ n → (j : ℕ) → SharperComing (knownFrom new S i j) (knownFrom old R i j)
   unfolding knownFrom
   known-sharper zero l j = cond-sharper (eqb j 0) (some startFacts) (some startFacts) start-sharper
   known-sharper (suc i) l j =
-      flow-sharper i (omega arith) _ _ refl refl (known-sharper i (omega arith) i) j _ _ (known-eleven old R i j) (known-sharper i (omega arith) j)
+      flow-sharper i (omega arith) _ _ refl refl (known-sharper i (omega arith) i) j _ _ (known-eleven old R i j)
+      (known-sharper i (omega arith) j)
 
   -- so nothing is refused
   allows-sharper : (j : ℕ) → j < n → Allows new S j
   unfolding known apply
-  allows-sharper j l reason r = go (knownFrom old R j j) refl (subst (λ o. SharperComing o (knownFrom old R j j)) (r .knows) (known-sharper j (omega arith) j))
+  allows-sharper j l reason r =
+      go (knownFrom old R j j) refl (subst (λ o. SharperComing o (knownFrom old R j j)) (r .knows) (known-sharper j (omega arith) j))
     where
       go : (o : Option Facts) → knownFrom old R j j ≡ o → SharperComing (some (r .facts)) o → ⊥
       go none q s = s
       go (some a) q s =
           contradiction (apply a (effect R j a (instruction old j))) (not-refused j l a q)
-          (subst (λ e. SharperFlow (apply (r .facts) e) (apply a (effect R j a (instruction old j)))) (r .refuses-it) (more j l (r .facts) a s (possible j l (r .facts) (r .knows))))
+          (subst (λ e. SharperFlow (apply (r .facts) e) (apply a (effect R j a (instruction old j)))) (r .refuses-it)
+          (more j l (r .facts) a s (coherent j l (r .facts) (r .knows))))
         where
           contradiction : (f : Flow) → ((reason : Reason) → f ≡ refuses reason → ⊥) → SharperFlow (apply (r .facts) (Refuse reason)) f → ⊥
           contradiction (refuses s) m k = m s refl
           contradiction (flows x y z) m k = k
 
--- a program of good form that tells no less is accepted
+-- a program of good form that tells no less is accepted, if it calculates with no range that is empty
 pub accepted-with-more-told : (old new : List ℕ) (R S : ℕ) → judged old R .finding ≡ Accepted → HasForm new S → length new ≡ length old
     → ((i : ℕ) → i < length new / 8 → TellsMore R S i (instruction new i) (instruction old i))
-    → ((j : ℕ) → j < length new / 8 → (a : Facts) → known new S j ≡ some a → PossibleFacts a)
+    → ((j : ℕ) → j < length new / 8 → (a : Facts) → known new S j ≡ some a → Coherent a (instruction new j))
     → judged new S .finding ≡ Accepted
-accepted-with-more-told old new R S e form same more possible =
+accepted-with-more-told old new R S e form same more coherent =
     let all = accepted-exactly old R .0 e .1 in
-    accepted-exactly new S .1 (form, allows-sharper old new R S (length new / 8) (λ j l. all j (subst (λ (k : ℕ). j < k / 8) same l)) more possible)
+    accepted-exactly new S .1 (
+      form,
+      allows-sharper old new R S (length new / 8)
+          (λ j l. all j (subst (λ (k : ℕ). j < k / 8) same l)) more coherent,
+    )
 
 -- so where one instruction is replaced by one that tells more
-pub accepted-with-one-that-tells-more : (old new : List ℕ) (R k : ℕ) → judged old R .finding ≡ Accepted → HasForm new R → length new ≡ length old
-    → ((i : ℕ) → (i ≡ k → ⊥) → instruction new i ≡ instruction old i) → TellsMore R R k (instruction new k) (instruction old k)
-    → ((j : ℕ) → j < length new / 8 → (a : Facts) → known new R j ≡ some a → PossibleFacts a)
-    → judged new R .finding ≡ Accepted
-accepted-with-one-that-tells-more old new R k e form same others this possible =
-    accepted-with-more-told old new R R e form same (λ i l. go i (ℕ-discrete i k)) possible
-  where
-    go : (i : ℕ) → Dec (i ≡ k) → TellsMore R R i (instruction new i) (instruction old i)
-    go i (yes q) = subst (λ (m : ℕ). TellsMore R R m (instruction new m) (instruction old m)) (sym q) this
-    go i (no q) =
-        subst (λ (ins : Instruction). TellsMore R R i ins (instruction old i)) (sym (others i q)) (same-tells-more R R i (omega arith) (instruction old i) (instruction-words old i))
+module _ (old new : List ℕ) (R k : ℕ) (e : judged old R .finding ≡ Accepted) (form : HasForm new R) (same : length new ≡ length old)
+    (others : (i : ℕ) → (i ≡ k → ⊥) → instruction new i ≡ instruction old i)
+    (this : TellsMore R R k (instruction new k) (instruction old k)) where
+  each-tells-more : (i : ℕ) → TellsMore R R i (instruction new i) (instruction old i)
+  each-tells-more i = go (ℕ-discrete i k)
+    where
+      go : Dec (i ≡ k) → TellsMore R R i (instruction new i) (instruction old i)
+      go (yes q) = subst (λ (m : ℕ). TellsMore R R m (instruction new m) (instruction old m)) (sym q) this
+      go (no q) =
+          subst (λ (ins : Instruction). TellsMore R R i ins (instruction old i)) (sym (others i q))
+          (same-tells-more R R i (omega arith) (instruction old i) (instruction-words old i))
+
+  pub accepted-with-one-that-tells-more :
+      ((j : ℕ) → j < length new / 8 → (a : Facts) → known new R j ≡ some a → Coherent a (instruction new j)) → judged new R .finding ≡ Accepted
+  accepted-with-one-that-tells-more = accepted-with-more-told old new R R e form same (λ i l. each-tells-more i)
+
+  -- and where what is known at each index is possible
+  pub accepted-where-possible : ((j : ℕ) → j < length new / 8 → (a : Facts) → known new R j ≡ some a → PossibleFacts a)
+      → judged new R .finding ≡ Accepted
+  accepted-where-possible possible =
+      accepted-with-one-that-tells-more (λ j l a q. possible-is-coherent a (instruction new j) (instruction-words new j) (possible j l a q))

@@ -36,16 +36,33 @@ exact-itself n h = number-itself (exact n) (exact-in n h .form)
 -- that join
 narrower-then : (a b c : Number) → Narrower a b → Narrower b c → Narrower a c
 narrower-then a b c h k =
-    record { bits = λ x m. k .bits x (h .bits x m); range = record { low = omega (arith, h .range .low, k .range .low); high = omega (arith, h .range .high, k .range .high) } }
+    record {
+      bits = λ x m. k .bits x (h .bits x m);
+      range = record {
+        low = omega (arith, h .range .low, k .range .low);
+        high = omega
+            (arith, h .range .high, k .range .high);
+      };
+    }
 
 module _ (m n : Number) (h : SharperNumber m n) where
   number-left : (k : Number) → SharperNumber m (joinedNumber n k)
   number-left k =
-      record { narrower = narrower-then m n (joinedNumber n k) (h .narrower) (joined-wider-left n k (h .form)); sharper-form = h .sharper-form; form = joined-form n k }
+      record {
+        narrower = narrower-then m n (joinedNumber n k) (h .narrower)
+            (joined-wider-left n k (h .form));
+        sharper-form = h .sharper-form;
+        form = joined-form n k;
+      }
 
   number-right : (k : Number) → SharperNumber m (joinedNumber k n)
   number-right k =
-      record { narrower = narrower-then m n (joinedNumber k n) (h .narrower) (joined-wider-right k n (h .form)); sharper-form = h .sharper-form; form = joined-form k n }
+      record {
+        narrower = narrower-then m n (joinedNumber k n) (h .narrower)
+            (joined-wider-right k n (h .form));
+        sharper-form = h .sharper-form;
+        form = joined-form k n;
+      }
 
 numbers-joined : (a′ b′ a b : Number) → SharperNumber a′ a → SharperNumber b′ b → SharperNumber (joinedNumber a′ b′) (joinedNumber a b)
 numbers-joined a′ b′ a b h k =
@@ -213,7 +230,8 @@ sharper-set (u ∷ us) [] d x y h k = absurd h
 sharper-set (u ∷ us) (v ∷ vs) zero x y h k = (k, h .1)
 sharper-set (u ∷ us) (v ∷ vs) (suc d) x y h k = (h .0, sharper-set us vs d x y (h .1) k)
 
-sharper-joined : (us′ vs′ us vs : List Value) → SharperAll us′ us → SharperAll vs′ vs → SharperAll (joinedValues us′ vs′) (joinedValues us vs)
+sharper-joined : (us′ vs′ us vs : List Value) → SharperAll us′ us → SharperAll vs′ vs
+    → SharperAll (joinedValues us′ vs′) (joinedValues us vs)
 unfolding joinedValues
 sharper-joined [] vs′ [] vs h k = tt
 sharper-joined [] vs′ (u ∷ us) vs h k = absurd h
@@ -221,7 +239,8 @@ sharper-joined (u′ ∷ us′) vs′ [] vs h k = absurd h
 sharper-joined (u′ ∷ us′) [] (u ∷ us) [] h k = tt
 sharper-joined (u′ ∷ us′) [] (u ∷ us) (v ∷ vs) h k = absurd k
 sharper-joined (u′ ∷ us′) (v′ ∷ vs′) (u ∷ us) [] h k = absurd k
-sharper-joined (u′ ∷ us′) (v′ ∷ vs′) (u ∷ us) (v ∷ vs) h k = (values-join u′ v′ u v (h .0) (k .0), sharper-joined us′ vs′ us vs (h .1) (k .1))
+sharper-joined (u′ ∷ us′) (v′ ∷ vs′) (u ∷ us) (v ∷ vs) h k =
+    (values-join u′ v′ u v (h .0) (k .0), sharper-joined us′ vs′ us vs (h .1) (k .1))
 
 -- of lists of as many values, since a join has as many as the shorter
 sharper-left : (us′ us vs : List Value) → length us ≡ length vs → SharperAll us′ us → SharperAll us′ (joinedValues us vs)
@@ -262,7 +281,8 @@ module _ (w′ o′ w o : Option Facts) (ew : Eleven w) (eo : Eleven o) where
   unfolding together joinedFacts
   together-sharper = go w′ o′ w o ew eo
     where
-      go : (w′ o′ w o : Option Facts) → Eleven w → Eleven o → SharperComing w′ w → SharperComing o′ o → SharperComing (together w′ o′) (together w o)
+      go : (w′ o′ w o : Option Facts) → Eleven w → Eleven o → SharperComing w′ w → SharperComing o′ o
+          → SharperComing (together w′ o′) (together w o)
       go none none w o ew eo h k = tt
       go none (some b′) w none ew eo h k = absurd k
       go none (some b′) none (some b) ew eo h k = k
@@ -280,4 +300,13 @@ module _ (w′ o′ w o : Option Facts) (ew : Eleven w) (eo : Eleven o) where
 -- at the start
 pub start-sharper : SharperFacts startFacts startFacts
 unfolding startFacts
-start-sharper = record { registers = (tt, ((refl, exact-itself 0 (lit< tt)), (tt, (tt, (tt, (tt, (tt, (tt, (tt, (tt, ((refl, exact-itself 512 (lit< tt)), tt))))))))))) }
+start-sharper =
+    record {
+      registers = (
+        tt,
+        (
+          (refl, exact-itself 0 (lit< tt)),
+          (tt, (tt, (tt, (tt, (tt, (tt, (tt, (tt, ((refl, exact-itself 512 (lit< tt)), tt))))))))),
+        ),
+      );
+    }

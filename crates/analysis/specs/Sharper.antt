@@ -1,18 +1,24 @@
 -- When what is known says no less than something else that is known: of a number, of the registers, of what flows out of an index. And when
--- what is known can be of a run at all.
+-- what is known does not contradict itself.
 use mathlib.Core.Path.{_≡_}
 use mathlib.Core.List.{List, [], _∷_}
 use mathlib.Core.Option.{Option, none, some}
 use Prim.Native.Nat.{ℕ}
+use Rattle.word.specs.declared.Operation.{Operation}
+use Rattle.word.specs.declared.Operation.the-variants.{Add, Sub}
+use Rattle.word.specs.declared.Operation.the-variants as operation
 use Rattle.machine.specs.declared.instruction.Instruction.{Instruction}
+use Rattle.machine.specs.declared.instruction.Instruction.the-variants.{Alu, Neg, Jump, Always, Exit, Load, Store, NoInstruction}
+use Rattle.machine.specs.Machine.{bits}
 use Rattle.known_bits.specs.KnownBits.{Well}
 use Rattle.number.specs.declared.Number.{Number}
-use Rattle.number.specs.Meaning.{In, Narrower}
+use Rattle.number.specs.Meaning.{In, Narrower, NoneEmpty}
+use Rattle.number.specs.Sharpen.{exact}
 use Rattle.analysis.specs.declared.Gone.the-variants.{Never, Mixed}
 use Rattle.analysis.specs.declared.Value.{Value}
 use Rattle.analysis.specs.declared.Value.the-variants.{Unusable, Plain, Address}
-use Rattle.analysis.specs.Values.{Facts, valueOf}
-use Rattle.analysis.specs.Effects.{effect}
+use Rattle.analysis.specs.Values.{Facts, valueOf, operandOf}
+use Rattle.analysis.specs.Effects.{Role, copies, converts, adds, subtracts, calculates, role, effect}
 use Rattle.analysis.specs.Judged.{Flow, refuses, flows, apply}
 
 -- a narrower Number; the pairs of both have the form
@@ -66,7 +72,39 @@ SharperFlow (refuses r) (flows next there target) = ⊥
 SharperFlow (flows next′ there′ target′) (refuses s) = Unit {0}
 SharperFlow (flows next′ there′ target′) (flows next there target) = SharperComing next′ next × SharperThere there′ target′ there target
 
--- ---- every Number has a number, as at each index that a run comes to
+-- ---- no range is empty that an instruction calculates with
+abbrev pub NoneEmptyOf : ℕ → Operation → Value → Value → Type 0
+NoneEmptyOf w op (Unusable g) y = Unit {0}
+NoneEmptyOf w op (Plain a) (Unusable h) = Unit {0}
+NoneEmptyOf w op (Plain a) (Plain b) = NoneEmpty w op a b
+NoneEmptyOf w op (Plain a) (Address q b) = NoneEmpty w op b a
+NoneEmptyOf w op (Address p a) (Unusable h) = Unit {0}
+NoneEmptyOf w op (Address p a) (Plain b) = NoneEmpty w op a b
+NoneEmptyOf w op (Address p a) (Address q b) = Unit {0}
+
+abbrev pub CoherentAlu : Role → ℕ → Operation → Value → Value → Type 0
+CoherentAlu copies w op x y = Unit {0}
+CoherentAlu converts w op x y = NoneEmptyOf w op y y
+CoherentAlu adds w op x y = NoneEmptyOf 64 Add x y
+CoherentAlu subtracts w op x y = NoneEmptyOf 64 Sub x y
+CoherentAlu calculates w op x y = NoneEmptyOf w op x y
+
+abbrev pub Coherent : Facts → Instruction → Type 0
+Coherent a (Alu w op d s) = CoherentAlu (role w op) (bits w) op (valueOf a d) (operandOf a s)
+Coherent a (Neg w d) = NoneEmptyOf (bits w) operation.Neg (valueOf a d) (valueOf a d)
+Coherent a (Jump w c d s off) = Unit {0}
+Coherent a (Always off) = Unit {0}
+Coherent a Exit = Unit {0}
+Coherent a (Load z d s off) = NoneEmptyOf 64 Add (valueOf a s) (Plain (exact off))
+Coherent a (Store z d off s) = NoneEmptyOf 64 Add (valueOf a d) (Plain (exact off))
+Coherent a NoInstruction = Unit {0}
+
+-- an instruction tells no less than another, with a record of S bytes for one of R
+abbrev pub TellsMore : ℕ → ℕ → ℕ → Instruction → Instruction → Type 0
+TellsMore R S i new old =
+    (a′ a : Facts) → SharperFacts a′ a → Coherent a′ new → SharperFlow (apply a′ (effect S i a′ new)) (apply a (effect R i a old))
+
+-- ---- every Number has a number, as at each index that a run comes to. Then nothing that is calculated is empty
 abbrev pub PossibleValue : Value → Type 0
 PossibleValue (Unusable g) = Unit {0}
 PossibleValue (Plain n) = (x : ℕ) × In n x
@@ -74,8 +112,3 @@ PossibleValue (Address p n) = (x : ℕ) × In n x
 
 pub record PossibleFacts (a : Facts) : Type 0 where
   pub each : (r : ℕ) → PossibleValue (valueOf a r)
-
--- ---- an instruction tells no less than another: of what is possible, and with a record that is as long as the other's or longer
-abbrev pub TellsMore : ℕ → ℕ → ℕ → Instruction → Instruction → Type 0
-TellsMore R S i new old =
-    (a′ a : Facts) → SharperFacts a′ a → PossibleFacts a′ → SharperFlow (apply a′ (effect S i a′ new)) (apply a (effect R i a old))

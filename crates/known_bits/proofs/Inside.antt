@@ -36,10 +36,12 @@ Inside w p q = (x : ℕ) → Mem w p x → Mem w q x
 pub best-inside : (w : ℕ) (S T : ℕ → Type 0) (p q : Bits) → Best w S p → Sound w T q → ((x : ℕ) → S x → T x) → Inside w p q
 best-inside w S T p q b s more = b .least q (s .well) (λ x i. s .sound x (more x i))
 
-pub more-results : (w : ℕ) (f : ℕ → ℕ → ℕ) (a′ b′ a b : Bits) → Inside w a′ a → Inside w b′ b → (z : ℕ) → Image w f a′ b′ z → Image w f a b z
+pub more-results : (w : ℕ) (f : ℕ → ℕ → ℕ) (a′ b′ a b : Bits) → Inside w a′ a → Inside w b′ b → (z : ℕ) → Image w f a′ b′ z
+    → Image w f a b z
 more-results w f a′ b′ a b i j z m = (m .0, m .1, i (m .0) (m .2), j (m .1) (m .3), m .4)
 
-module _ (w : ℕ) (small : w ≤ 64) (f : ℕ → ℕ → ℕ) (a′ b′ a b : Bits) (ga′ : Well w a′) (gb′ : Well w b′) (i : Inside w a′ a) (j : Inside w b′ b) where
+module _ (w : ℕ) (small : w ≤ 64) (f : ℕ → ℕ → ℕ) (a′ b′ a b : Bits) (ga′ : Well w a′) (gb′ : Well w b′) (i : Inside w a′ a)
+    (j : Inside w b′ b) where
   pub best-results-inside : (p q : Bits) → Best w (Image w f a′ b′) p → Sound 64 (Image w f a b) q → Inside 64 p q
   best-results-inside p q best s =
       best-inside 64 (Image w f a′ b′) (Image w f a b) p q
@@ -135,7 +137,8 @@ module _ (v w : ℕ) (h : v ≤ w) (p q : Bits) (gp : Well w p) (gq : Well w q) 
       subst (λ (n : ℕ). Mem v (low v q) n) (sym (c .2)) (low-has-the-cuts v w h q gq (c .0) (i (c .0) (c .1)))
 
 -- ---- where paths join
-module _ (w : ℕ) (a′ b′ a b : Bits) (ga′ : Well w a′) (gb′ : Well w b′) (ga : Well w a) (gb : Well w b) (i : Inside w a′ a) (j : Inside w b′ b) where
+module _ (w : ℕ) (a′ b′ a b : Bits) (ga′ : Well w a′) (gb′ : Well w b′) (ga : Well w a) (gb : Well w b) (i : Inside w a′ a)
+    (j : Inside w b′ b) where
   pub joined-inside : Inside w (joined a′ b′) (joined a b)
   joined-inside =
       best-inside w (InEither w a′ b′) (InEither w a b) _ _ (joined-best w a′ b′ ga′ gb′) (best-sound w _ _ (joined-best w a b ga gb)) more
@@ -155,7 +158,8 @@ learns-inside S T Nothing s h k more = tt
 learns-inside S T (Pair p) Nothing h k more = let e = h .answer .1 in k .answer (e .0) (more (e .0) (e .1))
 learns-inside S T (Pair p) (Pair q) h k more = best-inside 64 S T p q (h .answer .0) (best-sound 64 T q (k .answer .0)) more
 
-module _ (a′ b′ a b : Bits) (ga′ : Well 64 a′) (gb′ : Well 64 b′) (ga : Well 64 a) (gb : Well 64 b) (i : Inside 64 a′ a) (j : Inside 64 b′ b) where
+module _ (a′ b′ a b : Bits) (ga′ : Well 64 a′) (gb′ : Well 64 b′) (ga : Well 64 a) (gb : Well 64 b) (i : Inside 64 a′ a)
+    (j : Inside 64 b′ b) where
   pub met-inside : LearntInside (met a′ b′) (met a b)
   met-inside =
       learns-inside (Both a′ b′) (Both a b) _ _ (met-learns a′ b′ ga′ gb′) (met-learns a b ga gb) (λ x m. (i x (m .0), j x (m .1)))

@@ -1,4 +1,4 @@
--- Knowing more never hurts, of every operation on pairs at either width: the pair for operands of which more is known lies inside the other.
+-- Knowing more never hurts, of every operation on pairs at either width: of operands of which more is known the pair lies inside.
 use mathlib.Core.Path.{_≡_}
 use mathlib.Core.Logic.{_⊎_}
 use Prim.Native.Nat.{ℕ}
@@ -34,7 +34,8 @@ module _ (w : ℕ) (ww : Width w) (a′ b′ a b : Bits) (ga′ : Well w a′) (
   unfolding formula
   products =
       let up = well-wider w 64 (ww .small) in
-      low-inside w 64 (ww .small) _ _ (whole-product-sound a′ b′ (up a′ ga′) (up b′ gb′) .well) (whole-product-sound a b (up a ga) (up b gb) .well)
+      low-inside w 64 (ww .small) _ _ (whole-product-sound a′ b′ (up a′ ga′) (up b′ gb′) .well)
+      (whole-product-sound a b (up a ga) (up b gb) .well)
       (product-inside a′ b′ a b (up a′ ga′) (up b′ gb′) (up a ga) (up b gb) (wider a′ a ga′ ga i) (wider b′ b gb′ gb j))
 
   quotients : Inside 64 (formula w Div a′ b′) (formula w Div a b)
@@ -78,7 +79,8 @@ module _ (w : ℕ) (ww : Width w) (a′ b′ a b : Bits) (ga′ : Well w a′) (
   formula-inside Mov = by-best Mov tt
   formula-inside Arsh = signed-shifts
 
-module _ (w : ℕ) (either : (w ≡ 64) ⊎ (w ≡ 32)) (op : Operation) (a′ b′ a b : Bits) (ga′ : Well 64 a′) (gb′ : Well 64 b′) (ga : Well 64 a) (gb : Well 64 b)
+module _ (w : ℕ) (either : (w ≡ 64) ⊎ (w ≡ 32)) (op : Operation) (a′ b′ a b : Bits) (ga′ : Well 64 a′) (gb′ : Well 64 b′) (ga : Well 64 a)
+    (gb : Well 64 b)
     (i : Inside 64 a′ a) (j : Inside 64 b′ b) where
   pub calculated-inside : Inside 64 (calculated w op a′ b′) (calculated w op a b)
   unfolding calculated
@@ -86,4 +88,5 @@ module _ (w : ℕ) (either : (w ≡ 64) ⊎ (w ≡ 32)) (op : Operation) (a′ b
       let ww = width w either in
       let well = low-well w 64 (ww .small) in
       let cut = cut-inside w 64 (ww .small) in
-      formula-inside w ww (low w a′) (low w b′) (low w a) (low w b) (well a′ ga′) (well b′ gb′) (well a ga) (well b gb) (cut a′ a ga′ ga i) (cut b′ b gb′ gb j) op
+      formula-inside w ww (low w a′) (low w b′) (low w a) (low w b) (well a′ ga′) (well b′ gb′) (well a ga) (well b gb) (cut a′ a ga′ ga i)
+      (cut b′ b gb′ gb j) op

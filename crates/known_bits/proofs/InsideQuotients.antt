@@ -28,7 +28,8 @@ highest-quotient-falls t′ v′ t v l m =
     by-cases (λ (n : ℕ). cond (eqb v′ 0) t′ (t′ / v′) ≤ n) (eqb v 0)
     (λ e. le-trans (highest-quotient-at-most t′ v′) l)
     (λ e. let p = eqb-false v 0 e in by-cases (λ (n : ℕ). n ≤ t / v) (eqb v′ 0) (λ i. absurd (omega (arith, eqb-true v′ 0 i)))
-    (λ i. le-div-iff-mul-le {k = v} {x = t′ / v′} {y = t} (omega arith) .1 (le-trans (mul-le-mul-left (t′ / v′) m) (le-trans (div-mul-le-self t′ v′) l))))
+    (λ i. le-div-iff-mul-le {k = v} {x = t′ / v′} {y = t} (omega arith) .1
+    (le-trans (mul-le-mul-left (t′ / v′) m) (le-trans (div-mul-le-self t′ v′) l))))
 
 pub highest-rest-falls : (t′ v′ u′ t v u : ℕ) → t′ ≤ t → v ≤ v′ → u′ ≤ u → highestRest t′ v′ u′ ≤ highestRest t v u
 unfolding highestRest
@@ -50,15 +51,18 @@ module _ (w : ℕ) (small : w ≤ 64) (a′ b′ a b : Bits) (ga′ : Well w a�
     (i : Inside w a′ a) (j : Inside w b′ b) where
   divided-inside : (op : Operation) (p′ p : Bits) (t′ t : ℕ) → alu 64 op (a′ .value) (b′ .value) ≡ alu w op (a′ .value) (b′ .value)
       → ((b′ .mask ≡ 0) × (b′ .value ≡ 2 ^ power b′) → Best w (Image w (alu w op) a′ b′) p′)
-      → t′ ≤ t → t < 2 ^ 64 → Sound 64 (Image w (alu w op) a b) (divided op a b p t) → Inside 64 (divided op a′ b′ p′ t′) (divided op a b p t)
+      → t′ ≤ t → t < 2 ^ 64 → Sound 64 (Image w (alu w op) a b) (divided op a b p t)
+      → Inside 64 (divided op a′ b′ p′ t′) (divided op a b p t)
   unfolding known
   divided-inside op p′ p t′ t same by-power l h s =
       by-cases (λ (r : Bits). Inside 64 r (divided op a b p t)) (eqb (bitOr (a′ .mask) (b′ .mask)) 0)
       (λ e. let z = both-known (a′ .mask) (b′ .mask) (eqb-true _ _ e) in
-      subst (λ (n : ℕ). Inside 64 (exactly n) (divided op a b p t)) (sym same) (from-best (exactly (alu w op (a′ .value) (b′ .value))) (exact-best w op a′ b′ ga′ gb′ (z .0) (z .1))))
+      subst (λ (n : ℕ). Inside 64 (exactly n) (divided op a b p t)) (sym same)
+      (from-best (exactly (alu w op (a′ .value) (b′ .value))) (exact-best w op a′ b′ ga′ gb′ (z .0) (z .1))))
       (λ e. by-cases (λ (r : Bits). Inside 64 r (divided op a b p t)) (ltb (power b′) 64)
       (λ f. from-best p′ (by-power (power-is b′ (ltb-true _ _ f))))
-      (λ f. by-cases (Inside 64 (among (upTo t′))) (eqb (bitOr (a .mask) (b .mask)) 0) (λ g. absurd (eqb-false _ _ e (still-known (eqb-true _ _ g))))
+      (λ f. by-cases (Inside 64 (among (upTo t′))) (eqb (bitOr (a .mask) (b .mask)) 0)
+      (λ g. absurd (eqb-false _ _ e (still-known (eqb-true _ _ g))))
       (λ g. by-cases (Inside 64 (among (upTo t′))) (ltb (power b) 64)
       (λ o. absurd (omega (arith, ltb-false (power b′) 64 f, ltb-true (power b) 64 o, same-power (power-is b (ltb-true _ _ o) .0))))
       (λ o. among-inside 64 (upTo t′) (upTo t) (up-to-grows t′ t l h)))))
@@ -69,7 +73,8 @@ module _ (w : ℕ) (small : w ≤ 64) (a′ b′ a b : Bits) (ga′ : Well w a�
       still-known : bitOr (a .mask) (b .mask) ≡ 0 → bitOr (a′ .mask) (b′ .mask) ≡ 0
       still-known z =
           let k = both-known (a .mask) (b .mask) z in
-          ap₂ (λ (p q : Bits). bitOr (p .mask) (q .mask)) (inside-of-known w a′ a ga′ ga i (k .0)) (inside-of-known w b′ b gb′ gb j (k .1)) ∙ z
+          ap₂ (λ (p q : Bits). bitOr (p .mask) (q .mask)) (inside-of-known w a′ a ga′ ga i (k .0)) (inside-of-known w b′ b gb′ gb j (k .1))
+          ∙ z
 
       same-power : b .mask ≡ 0 → power b′ ≡ power b
       same-power z = ap power (inside-of-known w b′ b gb′ gb j z)

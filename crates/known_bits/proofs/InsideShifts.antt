@@ -34,7 +34,8 @@ use Rattle.known_bits.proofs.Tight.{digit, mem-least, mem-top, packed-w
 -- ---- the counts
 -- of one bit at most nothing is left but it or none
 only-bit-stays : (n m′ m : ℕ) → m′ < 2 ^ n → m < 2 ^ n → Covers m m′ → bitAnd m (m - 1) ≡ 0 → (m′ ≡ 0 → ⊥) → m′ ≡ m
-only-bit-stays n m′ m h′ h c one some = ext n m′ m h′ h (λ j l. digit (bit j m) (bit-lt j m) (λ z. c .zeros j z ∙ sym z) (λ o. at j o (decLt j (u .0)) (decLt (u .0) j)))
+only-bit-stays n m′ m h′ h c one some =
+    ext n m′ m h′ h (λ j l. digit (bit j m) (bit-lt j m) (λ z. c .zeros j z ∙ sym z) (λ o. at j o (decLt j (u .0)) (decLt (u .0) j)))
   where
     u : (k : ℕ) × (k < n) × (bit k m′ ≡ 1)
     u = some-bit n m′ (λ e. some (sym (mod-eq-of-lt h′) ∙ e))
@@ -66,9 +67,11 @@ module _ (w : ℕ) (ww : Width w) (m′ m : ℕ) (c : Covers m m′) where
       (only-bit-stays (ww .places) (m′ % w) (m % w) (count-below m′) (count-below m) count-covered (eqb-true _ _ s) some) ∙ s
 
 -- ---- any operation that shifts
-module _ (w : ℕ) (ww : Width w) (op : Operation) (h : Counts w op) (a′ b′ a b : Bits) (ga′ : Well w a′) (gb′ : Well w b′) (ga : Well w a) (gb : Well w b)
+module _ (w : ℕ) (ww : Width w) (op : Operation) (h : Counts w op) (a′ b′ a b : Bits) (ga′ : Well w a′) (gb′ : Well w b′) (ga : Well w a)
+    (gb : Well w b)
     (i : Inside w a′ a) (j : Inside w b′ b) where
-  pub shifted-inside : Sound 64 (Image w (alu w op) a b) (shifted w op a b) → Inside 64 (shiftedUnknown w op a′ b′) (shiftedUnknown w op a b)
+  pub shifted-inside : Sound 64 (Image w (alu w op) a b) (shifted w op a b)
+      → Inside 64 (shiftedUnknown w op a′ b′) (shiftedUnknown w op a b)
       → Inside 64 (shifted w op a′ b′) (shifted w op a b)
   unfolding shifted
   shifted-inside s unknown =
@@ -120,12 +123,14 @@ module _ (w : ℕ) (small : w ≤ 64) where
       (λ _. let g = packed-well w (2 ^ w - 1) _ (ones-lt w) (up-to-of-w-bits (2 ^ w - 1 - v) n (omega (arith, pow-pos w))) in
       all-of-w-bits w _ small (g .value-fits) (g .mask-fits)))
 
-signed-right-inside : (w v′ t′ n′ v t n : ℕ) → w ≤ 64 → v ≤ v′ → v′ ≤ t′ → t′ ≤ t → t < 2 ^ w → n ≤ n′ → Inside 64 (signedRight w v′ t′ n′) (signedRight w v t n)
+signed-right-inside : (w v′ t′ n′ v t n : ℕ) → w ≤ 64 → v ≤ v′ → v′ ≤ t′ → t′ ≤ t → t < 2 ^ w → n ≤ n′
+    → Inside 64 (signedRight w v′ t′ n′) (signedRight w v t n)
 unfolding signedRight
 signed-right-inside w v′ t′ n′ v t n small p q r h c =
     by-cases (Inside 64 (signedRight w v′ t′ n′)) (ltb t (2 ^ (w - 1)))
     (λ e. by-cases (λ (s : Bits). Inside 64 s (among (upTo (t / 2 ^ n)))) (ltb t′ (2 ^ (w - 1)))
-    (λ _. among-inside 64 _ _ (up-to-grows _ _ (shifted-right-at-most t′ t n′ n r c) (lt-of-le-of-lt (shr-le t n) (number-wider w 64 small h))))
+    (λ _. among-inside 64 _ _ (up-to-grows _ _ (shifted-right-at-most t′ t n′ n r c)
+    (lt-of-le-of-lt (shr-le t n) (number-wider w 64 small h))))
     (λ f. absurd (omega (arith, ltb-true t (2 ^ (w - 1)) e, ltb-false t′ (2 ^ (w - 1)) f))))
     (λ e. by-cases (Inside 64 (signedRight w v′ t′ n′)) (ltb v (2 ^ (w - 1)))
     (λ f. signed-right-of-w-bits w small v′ t′ n′ (lt-of-le-of-lt r h))
@@ -149,13 +154,15 @@ module _ (w : ℕ) (ww : Width w) (a′ b′ a b : Bits) (ga′ : Well w a′) (
   lsh-unknown-inside =
       rw (low-among w (leftMask (top a′) (b′ .value % w) (top b′ % w)), low-among w (leftMask (top a) (b .value % w) (top b % w)))
       (among-inside 64 _ _ (cut-is-covered _ _
-      (left-mask-falls (top a′) (b′ .value % w) (top b′ % w) (top a) (b .value % w) (top b % w) (top-falls w a′ a ga′ ga i) least-grows most-falls
+      (left-mask-falls (top a′) (b′ .value % w) (top b′ % w) (top a) (b .value % w) (top b % w)
+      (top-falls w a′ a ga′ ga i) least-grows most-falls
       (top-covers-top w a′ a ga′ ga i)) w))
 
   pub rsh-unknown-inside : Inside 64 (shiftedUnknown w Rsh a′ b′) (shiftedUnknown w Rsh a b)
   unfolding shiftedUnknown
   rsh-unknown-inside =
-      among-inside 64 _ _ (up-to-grows _ _ (shifted-right-at-most (top a′) (top a) (b′ .value % w) (b .value % w) (top-falls w a′ a ga′ ga i) least-grows)
+      among-inside 64 _ _ (up-to-grows _ _ (shifted-right-at-most (top a′) (top a) (b′ .value % w) (b .value % w)
+      (top-falls w a′ a ga′ ga i) least-grows)
       (lt-of-le-of-lt (shr-le (top a) (b .value % w)) (top-fits w (ww .small) a ga)))
 
   pub arsh-unknown-inside : Inside 64 (shiftedUnknown w Arsh a′ b′) (shiftedUnknown w Arsh a b)

@@ -19,13 +19,13 @@ use Rattle.known_bits.proofs.Laws.{mem-bounds}
 use Rattle.known_bits.proofs.Tight.{mem-least, mem-top, mem-low, mem-high}
 use Rattle.number.specs.declared.Range.{Range}
 use Rattle.number.specs.declared.Number.{Number}
-use Rattle.number.specs.Meaning.{Within, In, RangeWithin, BitsWithin, Narrower}
+use Rattle.number.specs.Meaning.{Within, In, RangeWithin, BitsWithin, Narrower, NoneEmpty}
 use Rattle.number.specs.Sharpen.{narrowed, sharpened, joinedRange, joinedNumber}
 use Rattle.number.specs.Computed.{block, modulo, second, computedRange, computed}
 use Rattle.number.proofs.Cases.{by-equal}
 use Rattle.number.proofs.Computing.{computed-sound}
 use Rattle.number.proofs.Known.{low-of-words}
-use Rattle.number.proofs.Operands.{block-of-more, Wide, base, base-is-power, second-is-modulo, modulo-in, modulo-below, second-below}
+use Rattle.number.proofs.Operands.{block-of-more, Wide, base, base-is-power, second-is-modulo, modulo-in, modulo-below, second-in, second-below}
 use Rattle.number.proofs.Outcomes.{Some}
 use Rattle.number.proofs.RangesInOrder.{Shrinks, block-shrinks, ranged-shrinks}
 use Rattle.number.proofs.Results.{wide-at-most-64}
@@ -38,8 +38,10 @@ module _ (j : ℕ) (small : j ≤ 64) (n′ n : Number) (g′ : Well 64 (n′ .b
   unfolding modulo
   modulo-shrinks some s =
       let b = block-shrinks (2 ^ j) (n′ .range) (n .range) (pow-pos j) (record { within = h .range; some = some }) in
-      let v = low-le j (n .bits .value) (n′ .bits .value) (λ k l. mem-low 64 (n .bits) g _ (h .bits _ (mem-least 64 (n′ .bits) g′)) k (omega arith)) in
-      let t = low-le j (top (n′ .bits)) (top (n .bits)) (λ k l. mem-high 64 (n .bits) g _ (h .bits _ (mem-top 64 (n′ .bits) g′)) k (omega arith)) in
+      let v = low-le j (n .bits .value) (n′ .bits .value) (λ k l. mem-low 64 (n .bits) g _ (h .bits _ (mem-least 64 (n′ .bits) g′)) k
+      (omega arith)) in
+      let t = low-le j (top (n′ .bits)) (top (n .bits)) (λ k l. mem-high 64 (n .bits) g _ (h .bits _ (mem-top 64 (n′ .bits) g′)) k
+      (omega arith)) in
       record { within = record { low = omega (arith, b .within .low); high = omega (arith, b .within .high) }; some = s }
 
 -- a Number that can be an operand, as far as its range tells: it is not empty, nor is what the operation takes of it
@@ -57,7 +59,8 @@ operand-of-member j h n x i =
     record { form = i .form; some = some-in n x i; taken = le-trans (u .low) (u .high) }
 
 -- one whose pair has j bits serves modulo 2 ^ j if some number is left between the ends of its pair
-pub operand-of-bounds : (j : ℕ) (n : Number) → Well 64 (n .bits) → top (n .bits) < 2 ^ j → Some (narrowed (n .bits) (n .range)) → Operand (2 ^ j) n
+pub operand-of-bounds : (j : ℕ) (n : Number) → Well 64 (n .bits) → top (n .bits) < 2 ^ j → Some (narrowed (n .bits) (n .range))
+    → Operand (2 ^ j) n
 unfolding modulo narrowed
 operand-of-bounds j n g h s = record { form = g; some = omega (arith, s); taken = go (decLt (n .range .hi) (2 ^ j)) }
   where
@@ -80,7 +83,8 @@ operand-of-bounds j n g h s = record { form = g; some = omega (arith, s); taken 
 pub word-operand : (n : Number) → Well 64 (n .bits) → Some (narrowed (n .bits) (n .range)) → Operand (2 ^ 64) n
 word-operand n g s = operand-of-bounds 64 n g (mem-top 64 (n .bits) g .fits) s
 
-module _ (w : ℕ) (wide : Wide w) (op : Operation) (a′ b′ a b : Number) (ga : Well 64 (a .bits)) (gb : Well 64 (b .bits)) (ha : Narrower a′ a) (hb : Narrower b′ b)
+module _ (w : ℕ) (wide : Wide w) (op : Operation) (a′ b′ a b : Number) (ga : Well 64 (a .bits)) (gb : Well 64 (b .bits))
+    (ha : Narrower a′ a) (hb : Narrower b′ b)
     (oa : Operand (2 ^ w) a′) (ob : Operand (base w op) b′) where
   second-shrinks : Shrinks (second w op b′) (second w op b)
   second-shrinks =
@@ -92,7 +96,8 @@ module _ (w : ℕ) (wide : Wide w) (op : Operation) (a′ b′ a b : Number) (ga
   unfolding computedRange
   computed-range-shrinks =
       block-shrinks (2 ^ w) _ _ (pow-pos w)
-      (ranged-shrinks w wide op _ _ _ _ (modulo-shrinks w (wide-at-most-64 w wide) a′ a (oa .form) ga ha (oa .some) (oa .taken)) second-shrinks
+      (ranged-shrinks w wide op _ _ _ _ (modulo-shrinks w (wide-at-most-64 w wide) a′ a (oa .form) ga ha (oa .some)
+      (oa .taken)) second-shrinks
       (modulo-below w a) (second-below w wide op b))
 
   pub computed-in-order : Some (computed w op a′ b′ .range) → Narrower (computed w op a′ b′) (computed w op a b)
@@ -103,14 +108,26 @@ module _ (w : ℕ) (wide : Wide w) (op : Operation) (a′ b′ a b : Number) (ga
       (calculated-inside w wide op (a′ .bits) (b′ .bits) (a .bits) (b .bits) (oa .form) (ob .form) ga gb (ha .bits) (hb .bits)) _ _
       (computed-range-shrinks .within)
 
--- ---- operands that have a number
-module _ (w : ℕ) (wide : Wide w) (op : Operation) (a′ b′ a b : Number) (ga : Well 64 (a .bits)) (gb : Well 64 (b .bits)) (ha : Narrower a′ a) (hb : Narrower b′ b)
-    (x y : ℕ) (i : In a′ x) (j : In b′ y) where
-  pub computed-in-order-of-members : Narrower (computed w op a′ b′) (computed w op a b)
-  computed-in-order-of-members =
-      let p = base-is-power w wide op in
-      computed-in-order w wide op a′ b′ a b ga gb ha hb (operand-of-member w (wide-at-most-64 w wide) a′ x i)
-      (subst (λ (m : ℕ). Operand m b′) (sym (p .2)) (operand-of-member (p .0) (p .1) b′ y j)) (some-in _ _ (computed-sound w wide op a′ b′ x y i j))
+-- ---- where no range is empty, so where each operand has a number
+module _ (w : ℕ) (wide : Wide w) (op : Operation) (a′ b′ a b : Number) (ga′ : Well 64 (a′ .bits)) (gb′ : Well 64 (b′ .bits))
+    (ga : Well 64 (a .bits))
+    (gb : Well 64 (b .bits)) (ha : Narrower a′ a) (hb : Narrower b′ b) where
+  pub computed-narrower : NoneEmpty w op a′ b′ → Narrower (computed w op a′ b′) (computed w op a b)
+  computed-narrower n =
+      computed-in-order w wide op a′ b′ a b ga gb ha hb (record { form = ga′; some = n .first; taken = n .first-taken })
+      (record { form = gb′; some = n .other; taken = subst Some (second-is-modulo w op b′) (n .other-taken) }) (n .result)
+
+pub none-empty-of-members : (w : ℕ) → Wide w → (op : Operation) (a b : Number) (x y : ℕ) → In a x → In b y → NoneEmpty w op a b
+none-empty-of-members w wide op a b x y i j =
+    let u = modulo-in w a (wide-at-most-64 w wide) x i in
+    let v = second-in w wide op b y j in
+    record {
+      first = some-in a x i;
+      first-taken = le-trans (u .low) (u .high);
+      other = some-in b y j;
+      other-taken = le-trans (v .low) (v .high);
+      result = some-in (computed w op a b) _ (computed-sound w wide op a b x y i j);
+    }
 
 -- ---- where paths join
 module _ (a′ b′ a b : Number) (ga′ : Well 64 (a′ .bits)) (gb′ : Well 64 (b′ .bits)) (ga : Well 64 (a .bits)) (gb : Well 64 (b .bits))

@@ -42,7 +42,8 @@ use Rattle.number.proofs.Shorter.{mov-computed-range}
 use Rattle.number.proofs.WaysInOrder.{if-left, settled-in-order, firsts-in-order, common-in-order, equal-in-order, SomeBounds, refined-leaves-bounds, refined-in-order}
 
 -- ---- a number with another low half
-module _ (p′ q′ p q : Bits) (gp′ : Well 64 p′) (gq′ : Well 64 q′) (gp : Well 64 p) (gq : Well 64 q) (i : BitsWithin p′ p) (j : BitsWithin q′ q) where
+module _ (p′ q′ p q : Bits) (gp′ : Well 64 p′) (gq′ : Well 64 q′) (gp : Well 64 p) (gq : Well 64 q) (i : BitsWithin p′ p)
+    (j : BitsWithin q′ q) where
   halves-of-bits-in-order : BitsWithin (halvesOfBits p′ q′) (halvesOfBits p q)
   unfolding halvesOfBits
   halves-of-bits-in-order x m = record { fits = m .fits; agrees = λ k l e. at k l e (decLt k 32) }
@@ -50,23 +51,28 @@ module _ (p′ q′ p q : Bits) (gp′ : Well 64 p′) (gq′ : Well 64 q′) (g
       at : (k : ℕ) → k < 64 → bit k (halves (p .mask) (q .mask)) ≡ 0 → Dec (k < 32) → bit k x ≡ bit k (halves (p .value) (q .value))
       at k l e (yes b) =
           let z : bit k (q .mask) ≡ 0 = sym (halves-low-bit (p .mask) (q .mask) k b) ∙ e in
-          m .agrees k l (halves-low-bit (p′ .mask) (q′ .mask) k b ∙ mask-covers-mask 64 q′ q gq′ gq j .zeros k z) ∙ halves-low-bit (p′ .value) (q′ .value) k b
+          m .agrees k l (halves-low-bit (p′ .mask) (q′ .mask) k b ∙ mask-covers-mask 64 q′ q gq′ gq j .zeros k z) ∙ halves-low-bit
+          (p′ .value) (q′ .value) k b
           ∙ known-is-kept 64 q′ q gq′ gq j k l z ∙ sym (halves-low-bit (p .value) (q .value) k b)
       at k l e (no o) =
           let z : bit k (p .mask) ≡ 0 = sym (halves-high-bit (p .mask) (q .mask) k o) ∙ e in
-          m .agrees k l (halves-high-bit (p′ .mask) (q′ .mask) k o ∙ mask-covers-mask 64 p′ p gp′ gp i .zeros k z) ∙ halves-high-bit (p′ .value) (q′ .value) k o
+          m .agrees k l (halves-high-bit (p′ .mask) (q′ .mask) k o ∙ mask-covers-mask 64 p′ p gp′ gp i .zeros k z) ∙ halves-high-bit
+          (p′ .value) (q′ .value) k o
           ∙ known-is-kept 64 p′ p gp′ gp i k l z ∙ sym (halves-high-bit (p .value) (q .value) k o)
 
 halves-of-range-in-order : (r′ t′ r t : Range) → RangeWithin r′ r → RangeWithin t′ t → RangeWithin (halvesOfRange r′ t′) (halvesOfRange r t)
 unfolding halvesOfRange common
 halves-of-range-in-order r′ t′ r t a b =
     by-less (RangeWithin (halvesOfRange r′ t′)) (r .hi) (2 ^ 32)
-    (λ h. by-less (λ u. RangeWithin u (common r t)) (r′ .hi) (2 ^ 32) (λ _. common-in-order r′ t′ r t a b) (λ n. absurd (omega (arith, a .high))))
-    (λ _. by-less (λ u. RangeWithin u r) (r′ .hi) (2 ^ 32) (λ _. record { low = omega (arith, a .low); high = omega (arith, a .high) }) (λ _. a))
+    (λ h. by-less (λ u. RangeWithin u (common r t)) (r′ .hi) (2 ^ 32) (λ _. common-in-order r′ t′ r t a b)
+    (λ n. absurd (omega (arith, a .high))))
+    (λ _. by-less (λ u. RangeWithin u r) (r′ .hi) (2 ^ 32) (λ _. record { low = omega (arith, a .low); high = omega (arith, a .high) })
+    (λ _. a))
 
 module _ (d′ s′ d s : Number) (gd′ : Well 64 (d′ .bits)) (gs′ : Well 64 (s′ .bits)) (gd : Well 64 (d .bits)) (gs : Well 64 (s .bits))
     (hd : Narrower d′ d) (hs : Narrower s′ s) where
-  whole-in-order : (r′ r : Refined) → Left r′ (λ l m. Well 64 (l .bits) × Well 64 (m .bits)) → Left r (λ l m. Well 64 (l .bits) × Well 64 (m .bits)) → LeavesNoMore r′ r
+  whole-in-order : (r′ r : Refined) → Left r′ (λ l m. Well 64 (l .bits) × Well 64 (m .bits))
+      → Left r (λ l m. Well 64 (l .bits) × Well 64 (m .bits)) → LeavesNoMore r′ r
       → LeavesNoMore (whole d′ s′ r′) (whole d s r)
   unfolding whole withLow
   whole-in-order Excluded r f′ f h = tt
@@ -116,7 +122,8 @@ module _ (n′ n : Number) (g : Well 64 (n .bits)) (h : Narrower n′ n) where
   unfolding compared
   compared-in-order c k = go (signed c)
     where
-      go : (b : Bool) → Some (cond b (movedHalf n′) (lowHalf n′) .range) → Narrower (cond b (movedHalf n′) (lowHalf n′)) (cond b (movedHalf n) (lowHalf n))
+      go : (b : Bool) → Some (cond b (movedHalf n′) (lowHalf n′) .range)
+          → Narrower (cond b (movedHalf n′) (lowHalf n′)) (cond b (movedHalf n) (lowHalf n))
       go true s = moved-half-in-order (halved-operand n′ k) s
       go false s = low-half-in-order k
 
@@ -124,7 +131,8 @@ module _ (n′ n : Number) (g : Well 64 (n .bits)) (h : Narrower n′ n) where
 moved-half-fits : (n : Number) → Well 64 (n .bits) → BitsWithin (movedHalf n .bits) (loaded 4 .bits)
 unfolding movedHalf
 moved-half-fits n g =
-    computed-best 32 (inr refl) Add n (exact (2 ^ 31)) g (exact-in (2 ^ 31) (lit< tt) .form) tt (loaded 4 .bits) (loaded-in 4 (omega arith) 0 (lit< tt) .form)
+    computed-best 32 (inr refl) Add n (exact (2 ^ 31)) g (exact-in (2 ^ 31) (lit< tt) .form) tt (loaded 4 .bits)
+    (loaded-in 4 (omega arith) 0 (lit< tt) .form)
     (λ z r. loaded-in 4 (omega arith) z (subst (λ (m : ℕ). m < 2 ^ 32) (sym (r .4)) (result-below 32 Add (r .0) (r .1))) .bits)
 
 -- what is left of it can be moved back
@@ -147,7 +155,8 @@ module _ (d′ d : Number) (gd : Well 64 (d .bits)) (hd : Narrower d′ d) (k : 
       let f = low-half-form d′ (k .form) in
       let f′ = moved-half-form u′ (o .form) in
       if-left (equal (lowHalf d′) (movedHalf u′)) (equal (lowHalf d) (movedHalf u)) (Some (movedHalf u′ .range))
-      (left-map (equal (lowHalf d′) (movedHalf u′)) _ (λ a b. Some (movedHalf u′ .range)) (λ a b j. some-of-within (j .second .range) (j .some-second))
+      (left-map (equal (lowHalf d′) (movedHalf u′)) _ (λ a b. Some (movedHalf u′ .range))
+      (λ a b j. some-of-within (j .second .range) (j .some-second))
       (equal-leaves (lowHalf d′) (movedHalf u′) f f′))
       (λ s. equal-in-order (lowHalf d′) (movedHalf u′) (lowHalf d) (movedHalf u) f f′ (low-half-form d gd) (moved-half-form u gu)
       (low-half-in-order d′ d gd hd k) (moved-half-in-order u′ u gu h o s))
@@ -161,22 +170,26 @@ unfolding whole
 whole-leaves d s Excluded A h = tt
 whole-leaves d s (Possible l m) A h = settled-leaves (withLow d l) (withLow s m) (λ l m. A) (λ a b. h)
 
-module _ (d′ s′ d s : Number) (gd : Well 64 (d .bits)) (gs : Well 64 (s .bits)) (hd : Narrower d′ d) (hs : Narrower s′ s) (kd : Halved d′) (ks : Halved s′) where
+module _ (d′ s′ d s : Number) (gd : Well 64 (d .bits)) (gs : Well 64 (s .bits)) (hd : Narrower d′ d) (hs : Narrower s′ s) (kd : Halved d′)
+    (ks : Halved s′) where
   movedBack-in-order : (r′ r : Refined) → Left r′ (λ u v. Operand (2 ^ 32) u × Operand (2 ^ 32) v) → Left r Forms → LeavesNoMore r′ r
       → LeavesNoMore (movedBack d′ s′ r′) (movedBack d s r)
   unfolding movedBack
   movedBack-in-order Excluded r f′ f h = tt
   movedBack-in-order (Possible u′ v′) Excluded f′ f h = absurd h
   movedBack-in-order (Possible u′ v′) (Possible u v) f′ f h =
-      firsts-in-order (equal (lowHalf d′) (movedHalf u′)) (equal (lowHalf s′) (movedHalf v′)) (equal (lowHalf d) (movedHalf u)) (equal (lowHalf s) (movedHalf v))
+      firsts-in-order (equal (lowHalf d′) (movedHalf u′)) (equal (lowHalf s′) (movedHalf v′)) (equal (lowHalf d) (movedHalf u))
+      (equal (lowHalf s) (movedHalf v))
       (back-in-order d′ d gd hd kd u′ u (f′ .0) (f .0) (h .0)) (back-in-order s′ s gs hs ks v′ v (f′ .1) (f .1) (h .1))
 
-  lowHalves-in-order : (c : Comparison) (r′ r : Refined) → Left r′ (λ u v. Sharper (compared c d′) (compared c s′) u v × SomeBounds u v) → Left r Forms → LeavesNoMore r′ r
+  lowHalves-in-order : (c : Comparison) (r′ r : Refined) → Left r′ (λ u v. Sharper (compared c d′) (compared c s′) u v × SomeBounds u v)
+      → Left r Forms → LeavesNoMore r′ r
       → LeavesNoMore (lowHalves c d′ s′ r′) (lowHalves c d s r)
   unfolding lowHalves compared
   lowHalves-in-order c r′ r f′ f h = go (signed c) f′
     where
-      go : (b : Bool) → Left r′ (λ u v. Sharper (cond b (movedHalf d′) (lowHalf d′)) (cond b (movedHalf s′) (lowHalf s′)) u v × SomeBounds u v)
+      go : (b : Bool)
+          → Left r′ (λ u v. Sharper (cond b (movedHalf d′) (lowHalf d′)) (cond b (movedHalf s′) (lowHalf s′)) u v × SomeBounds u v)
           → LeavesNoMore (cond b (movedBack d′ s′ r′) r′) (cond b (movedBack d s r) r)
       go true e =
           movedBack-in-order r′ r
@@ -195,9 +208,14 @@ module _ (d′ s′ d s : Number) (gd : Well 64 (d .bits)) (gs : Well 64 (s .bit
       let fs = compared-form c s′ (ks .form) in
       let A : Type 0 = Some (compared c d′ .range) × Some (compared c s′ .range) in
       if-left (told c way d′ s′) (told c way d s) A
-      (left-map (told c way d′ s′) _ (λ u v. A) (λ u v j. (some-of-within (j .first .range) (j .some-first), some-of-within (j .second .range) (j .some-second)))
+      (left-map (told c way d′ s′) _ (λ u v. A) (λ u v j. (
+        some-of-within (j .first .range) (j .some-first),
+        some-of-within
+            (j .second .range) (j .some-second),
+      ))
       (refined-sharper (unsigned c) way (compared c d′) (compared c s′) fd fs))
-      (λ j. refined-in-order (unsigned c) way (compared c d′) (compared c s′) (compared c d) (compared c s) fd fs (compared-form c d gd) (compared-form c s gs)
+      (λ j. refined-in-order (unsigned c) way (compared c d′) (compared c s′) (compared c d) (compared c s) fd fs (compared-form c d gd)
+      (compared-form c s gs)
       (compared-in-order d′ d gd hd c kd (j .0)) (compared-in-order s′ s gs hs c ks (j .1)))
 
   halves-in-order : (c : Comparison) (way : Bool) → LeavesNoMore (lowHalves c d′ s′ (told c way d′ s′)) (lowHalves c d s (told c way d s))
@@ -208,7 +226,8 @@ module _ (d′ s′ d s : Number) (gd : Well 64 (d .bits)) (gs : Well 64 (s .bit
       (left-both (told c way d′ s′) _ SomeBounds
       (refined-sharper (unsigned c) way (compared c d′) (compared c s′) (compared-form c d′ (kd .form)) (compared-form c s′ (ks .form)))
       (refined-leaves-bounds (unsigned c) way (compared c d′) (compared c s′)))
-      (left-map (told c way d s) _ Forms (λ u v j. (j .form-first fd, j .form-second fs)) (refined-sharper (unsigned c) way (compared c d) (compared c s) fd fs))
+      (left-map (told c way d s) _ Forms (λ u v j. (j .form-first fd, j .form-second fs))
+      (refined-sharper (unsigned c) way (compared c d) (compared c s) fd fs))
       (told-in-order c way)
 
 module _ (c : Comparison) (way : Bool) (d s : Number) (gd : Well 64 (d .bits)) (gs : Well 64 (s .bits)) where
@@ -235,7 +254,8 @@ module _ (c : Comparison) (way : Bool) (d s : Number) (gd : Well 64 (d .bits)) (
       (left-map (lowHalves c d s (told c way d s)) _ (λ l m. SomeLow)
       (λ l m h. (some-of-within (h .0 .narrower .range) (h .0 .some), some-of-within (h .1 .narrower .range) (h .1 .some))) halves-left))))
 
-pub refined32-in-order : (c : Comparison) (way : Bool) (d′ s′ d s : Number) → Well 64 (d′ .bits) → Well 64 (s′ .bits) → Well 64 (d .bits) → Well 64 (s .bits)
+pub refined32-in-order : (c : Comparison) (way : Bool) (d′ s′ d s : Number) → Well 64 (d′ .bits) → Well 64 (s′ .bits) → Well 64 (d .bits)
+    → Well 64 (s .bits)
     → Narrower d′ d → Narrower s′ s → LeavesNoMore (refined32 c way d′ s′) (refined32 c way d s)
 refined32-in-order c way d′ s′ d s gd′ gs′ gd gs hd hs =
     if-left (refined32 c way d′ s′) (refined32 c way d s) (Halved d′ × Halved s′) (halved-if-left c way d′ s′ gd′ gs′)
@@ -245,4 +265,5 @@ refined32-in-order c way d′ s′ d s gd′ gs′ gd gs hd hs =
 
 pub refined32-form : (c : Comparison) (way : Bool) (d s : Number) → Well 64 (d .bits) → Well 64 (s .bits) → Left (refined32 c way d s) Forms
 refined32-form c way d s gd gs =
-    left-map (refined32 c way d s) (Sharper d s) Forms (λ d′ s′ h. (h .form-first gd, h .form-second gs)) (refined32-sharper c way d s gd gs)
+    left-map (refined32 c way d s) (Sharper d s) Forms (λ d′ s′ h. (h .form-first gd, h .form-second gs))
+    (refined32-sharper c way d s gd gs)

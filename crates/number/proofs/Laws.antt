@@ -9,8 +9,8 @@ pub use Rattle.number.proofs.Compare.{refined-sound, refined-narrower}
 pub use Rattle.number.proofs.AgainstKnown.{refined-exact, refined-exact-excluded}
 -- the same of a comparison of low halves
 pub use Rattle.number.proofs.Halves.{refined32-sound, refined32-narrower, refined32-exact, refined32-exact-excluded}
--- of what is known better no less is known: an operation on numbers that have members, a join, a way out of a comparison at either width
-pub use Rattle.number.proofs.ComputedInOrder.{computed-in-order-of-members, joined-in-order}
+-- of what is known better no less is known: an operation in which no range is empty, a join, a way out of a comparison at either width
+pub use Rattle.number.proofs.ComputedInOrder.{computed-narrower, none-empty-of-members, joined-in-order}
 pub use Rattle.number.proofs.Known.{joined-form, joined-wider-left, joined-wider-right}
 pub use Rattle.number.proofs.WaysInOrder.{refined-in-order}
 pub use Rattle.number.proofs.Compare.{refined-form}

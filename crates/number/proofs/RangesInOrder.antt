@@ -48,7 +48,11 @@ block-shrinks m r′ r p h =
           (λ e. let l = same-quotient-between (r .lo) (r′ .lo) (r .hi) m p e (h .within .low) (omega (arith, h .some, h .within .high)) in
           let u = same-quotient-between (r .lo) (r′ .hi) (r .hi) m p e (omega (arith, h .some, h .within .low)) (h .within .high) in
           by-equal (λ s. RangeWithin s (record { lo = r .lo % m; hi = r .hi % m })) (r′ .lo / m) (r′ .hi / m)
-          (λ _. record { low = rest-in-order (r .lo) (r′ .lo) m (l .0) (h .within .low); high = rest-in-order (r′ .hi) (r .hi) m (u .1) (h .within .high) })
+          (λ _. record {
+            low = rest-in-order (r .lo) (r′ .lo) m (l .0) (h .within .low);
+            high = rest-in-order (r′ .hi) (r .hi) m (u .1)
+                (h .within .high);
+          })
           (λ n. absurd (n (sym (l .0) ∙ u .0))))
           (λ _. by-equal (λ s. RangeWithin s (record { lo = 0; hi = m - 1 })) (r′ .lo / m) (r′ .hi / m)
           (λ _. record { low = omega arith; high = omega (arith, mod-lt (r′ .hi) p) }) (λ _. same-range _));
@@ -108,7 +112,8 @@ module _ (a′ b′ a b : Range) (ra : RangeWithin a′ a) (rb : RangeWithin b�
           within = by-less P (a′ .hi + b′ .hi) (2 ^ 64) (λ _. s)
               (λ m. by-at-most P (2 ^ 64) (a′ .lo + b′ .lo) (λ _. s)
               (λ n. by-less (RangeWithin (everything 64)) (a .hi + b .hi) (2 ^ 64) (λ l. absurd (omega (arith, ra .high, rb .high)))
-              (λ _. by-at-most (RangeWithin (everything 64)) (2 ^ 64) (a .lo + b .lo) (λ l. absurd (omega (arith, ra .low, rb .low))) (λ _. same-range _))));
+              (λ _. by-at-most (RangeWithin (everything 64)) (2 ^ 64) (a .lo + b .lo) (λ l. absurd (omega (arith, ra .low, rb .low)))
+              (λ _. same-range _))));
           some = some-result Add _ (sum-range-has a′ b′);
         }
 
@@ -116,12 +121,14 @@ module _ (a′ b′ a b : Range) (ra : RangeWithin a′ a) (rb : RangeWithin b�
     unfolding differenceRange
     difference-shrinks =
         let P : Range → Type 0 = λ s. RangeWithin s (differenceRange a b) in
-        let s : RangeWithin (crossed 64 Sub a′ b′) (differenceRange a b) = crossed-within 64 Sub _ (λ x y. difference-range-has a b x y ha hb) in
+        let s : RangeWithin (crossed 64 Sub a′ b′) (differenceRange a b) = crossed-within 64 Sub _
+        (λ x y. difference-range-has a b x y ha hb) in
         record {
           within = by-at-most P (b′ .hi) (a′ .lo) (λ _. s)
               (λ m. by-less P (a′ .hi) (b′ .lo) (λ _. s)
               (λ n. by-at-most (RangeWithin (everything 64)) (b .hi) (a .lo) (λ l. absurd (omega (arith, ra .low, rb .high)))
-              (λ _. by-less (RangeWithin (everything 64)) (a .hi) (b .lo) (λ l. absurd (omega (arith, ra .high, rb .low))) (λ _. same-range _))));
+              (λ _. by-less (RangeWithin (everything 64)) (a .hi) (b .lo) (λ l. absurd (omega (arith, ra .high, rb .low)))
+              (λ _. same-range _))));
           some = some-result Sub _ (difference-range-has a′ b′);
         }
 
@@ -183,7 +190,8 @@ module _ (a′ b′ a b : Range) (ra : RangeWithin a′ a) (rb : RangeWithin b�
               (λ _. by-equal (RangeWithin _) (b .lo) 0 (λ _. record { low = omega arith; high = ra .high })
               (λ o. absurd (o (omega (arith, rb .low))))))
               (λ nl. by-less P (a′ .hi) (b′ .lo)
-              (λ s. dividend-within (b′ .lo) bl (λ x i l. rest-is x (b′ .lo) (omega (arith, i .high)) (omega (arith, nb)) (omega arith) ∙ mod-eq-of-lt (omega arith)))
+              (λ s. dividend-within (b′ .lo) bl (λ x i l. rest-is x (b′ .lo) (omega (arith, i .high)) (omega (arith, nb)) (omega arith)
+              ∙ mod-eq-of-lt (omega arith)))
               (λ m. by-test P (sameQuotient a′ b′) (λ _. straight-within 64 Mod _ (λ x y. rest-range-has a b x y ha hb))
               (λ f. by-equal (RangeWithin (below-both a′ b′)) (b .hi) 0 (λ o. absurd (nz (omega (arith, rb .high))))
               (λ _. by-equal (RangeWithin (below-both a′ b′)) (b .lo) 0 (λ _. record { low = omega arith; high = omega (arith, ra .high) })
@@ -220,14 +228,16 @@ module _ (a′ b′ a b : Range) (ra : RangeWithin a′ a) (rb : RangeWithin b�
           within = by-less (λ s. RangeWithin s (leftRange a b)) (a′ .hi * 2 ^ b′ .hi) (2 ^ 64)
               (λ _. straight-within 64 Lsh _ (λ x n i j. left-range-has a b x n i j ha hb))
               (λ m. by-less (RangeWithin (everything 64)) (a .hi * 2 ^ b .hi) (2 ^ 64) (λ l. absurd (omega arith)) (λ _. same-range _));
-          some = some-of _ _ (left-range-has a′ b′ (a′ .lo) (b′ .lo) (lowest a′ na) (lowest b′ nb) (omega (arith, ra .high)) (omega (arith, rb .high)));
+          some = some-of _ _ (left-range-has a′ b′ (a′ .lo) (b′ .lo) (lowest a′ na) (lowest b′ nb) (omega (arith, ra .high))
+              (omega (arith, rb .high)));
         }
 
     right-shrinks : Shrinks (crossed 64 Rsh a′ b′) (crossed 64 Rsh a b)
     right-shrinks =
         record {
           within = crossed-within 64 Rsh _ (λ x n i j. right-range-has a b x n i j ha hb);
-          some = some-of _ _ (right-range-has a′ b′ (a′ .lo) (b′ .lo) (lowest a′ na) (lowest b′ nb) (omega (arith, ra .high)) (omega (arith, rb .high)));
+          some = some-of _ _ (right-range-has a′ b′ (a′ .lo) (b′ .lo) (lowest a′ na) (lowest b′ nb) (omega (arith, ra .high))
+              (omega (arith, rb .high)));
         }
 
   signed-right-shrinks : (w : ℕ) → a .hi < 2 ^ w → b .hi < w → Shrinks (signedRightRange w a′ b′) (signedRightRange w a b)
@@ -236,26 +246,41 @@ module _ (a′ b′ a b : Range) (ra : RangeWithin a′ a) (rb : RangeWithin b�
       let P : Range → Type 0 = λ s. RangeWithin s (signedRightRange w a b) in
       record {
         within = by-less P (a′ .hi) (2 ^ (w - 1)) (λ _. crossed-within w Arsh _ (λ x n i j. signed-right-range-has w a b x n i j ha hb))
-            (λ m. by-at-most P (2 ^ (w - 1)) (a′ .lo) (λ _. straight-within w Arsh _ (λ x n i j. signed-right-range-has w a b x n i j ha hb))
+            (λ m. by-at-most P (2 ^ (w - 1)) (a′ .lo) (λ _. straight-within w Arsh _
+            (λ x n i j. signed-right-range-has w a b x n i j ha hb))
             (λ n. by-less (RangeWithin (everything w)) (a .hi) (2 ^ (w - 1)) (λ l. absurd (omega (arith, ra .high)))
-            (λ _. by-at-most (RangeWithin (everything w)) (2 ^ (w - 1)) (a .lo) (λ l. absurd (omega (arith, ra .low))) (λ _. same-range _))));
-        some = some-of _ _ (signed-right-range-has w a′ b′ (a′ .lo) (b′ .lo) (lowest a′ na) (lowest b′ nb) (omega (arith, ra .high)) (omega (arith, rb .high)));
+            (λ _. by-at-most (RangeWithin (everything w)) (2 ^ (w - 1)) (a .lo) (λ l. absurd (omega (arith, ra .low)))
+            (λ _. same-range _))));
+        some = some-of _ _ (signed-right-range-has w a′ b′ (a′ .lo) (b′ .lo) (lowest a′ na) (lowest b′ nb) (omega (arith, ra .high))
+            (omega (arith, rb .high)));
       }
 
 -- ---- at either width, operands of w bits; of a shift the second is a range of counts
-pub ranged-shrinks : (w : ℕ) → Wide w → (op : Operation) (a′ b′ a b : Range) → Shrinks a′ a → Shrinks b′ b → a .hi < 2 ^ w → b .hi < base w op
+pub ranged-shrinks : (w : ℕ) → Wide w → (op : Operation) (a′ b′ a b : Range) → Shrinks a′ a → Shrinks b′ b → a .hi < 2 ^ w
+    → b .hi < base w op
     → Shrinks (ranged w op a′ b′) (ranged w op a b)
 unfolding ranged base just
-ranged-shrinks w h Add a′ b′ a b sa sb ha hb = sum-shrinks a′ b′ a b (sa .within) (sb .within) (sa .some) (sb .some) (word w h _ ha) (word w h _ hb)
-ranged-shrinks w h Sub a′ b′ a b sa sb ha hb = difference-shrinks a′ b′ a b (sa .within) (sb .within) (sa .some) (sb .some) (word w h _ ha) (word w h _ hb)
-ranged-shrinks w h Mul a′ b′ a b sa sb ha hb = product-shrinks a′ b′ a b (sa .within) (sb .within) (sa .some) (sb .some) (word w h _ ha) (word w h _ hb)
-ranged-shrinks w h Div a′ b′ a b sa sb ha hb = quotient-shrinks a′ b′ a b (sa .within) (sb .within) (sa .some) (sb .some) (word w h _ ha) (word w h _ hb)
-ranged-shrinks w h Or a′ b′ a b sa sb ha hb = or-shrinks a′ b′ a b (sa .within) (sb .within) (sa .some) (sb .some) (word w h _ ha) (word w h _ hb)
-ranged-shrinks w h And a′ b′ a b sa sb ha hb = and-shrinks a′ b′ a b (sa .within) (sb .within) (sa .some) (sb .some) (word w h _ ha) (word w h _ hb)
-ranged-shrinks w h Lsh a′ b′ a b sa sb ha hb = left-shrinks a′ b′ a b (sa .within) (sb .within) (sa .some) (sb .some) (word w h _ ha) (omega (arith, wide-at-most-64 w h))
-ranged-shrinks w h Rsh a′ b′ a b sa sb ha hb = right-shrinks a′ b′ a b (sa .within) (sb .within) (sa .some) (sb .some) (word w h _ ha) (omega (arith, wide-at-most-64 w h))
-ranged-shrinks w h Neg a′ b′ a b sa sb ha hb = difference-shrinks (just 0) a′ (just 0) a (same-range _) (sa .within) (le-refl 0) (sa .some) (pow-pos 64) (word w h _ ha)
-ranged-shrinks w h Mod a′ b′ a b sa sb ha hb = rest-shrinks a′ b′ a b (sa .within) (sb .within) (sa .some) (sb .some) (word w h _ ha) (word w h _ hb)
-ranged-shrinks w h Xor a′ b′ a b sa sb ha hb = xor-shrinks a′ b′ a b (sa .within) (sb .within) (sa .some) (sb .some) (word w h _ ha) (word w h _ hb)
+ranged-shrinks w h Add a′ b′ a b sa sb ha hb =
+    sum-shrinks a′ b′ a b (sa .within) (sb .within) (sa .some) (sb .some) (word w h _ ha) (word w h _ hb)
+ranged-shrinks w h Sub a′ b′ a b sa sb ha hb =
+    difference-shrinks a′ b′ a b (sa .within) (sb .within) (sa .some) (sb .some) (word w h _ ha) (word w h _ hb)
+ranged-shrinks w h Mul a′ b′ a b sa sb ha hb =
+    product-shrinks a′ b′ a b (sa .within) (sb .within) (sa .some) (sb .some) (word w h _ ha) (word w h _ hb)
+ranged-shrinks w h Div a′ b′ a b sa sb ha hb =
+    quotient-shrinks a′ b′ a b (sa .within) (sb .within) (sa .some) (sb .some) (word w h _ ha) (word w h _ hb)
+ranged-shrinks w h Or a′ b′ a b sa sb ha hb =
+    or-shrinks a′ b′ a b (sa .within) (sb .within) (sa .some) (sb .some) (word w h _ ha) (word w h _ hb)
+ranged-shrinks w h And a′ b′ a b sa sb ha hb =
+    and-shrinks a′ b′ a b (sa .within) (sb .within) (sa .some) (sb .some) (word w h _ ha) (word w h _ hb)
+ranged-shrinks w h Lsh a′ b′ a b sa sb ha hb =
+    left-shrinks a′ b′ a b (sa .within) (sb .within) (sa .some) (sb .some) (word w h _ ha) (omega (arith, wide-at-most-64 w h))
+ranged-shrinks w h Rsh a′ b′ a b sa sb ha hb =
+    right-shrinks a′ b′ a b (sa .within) (sb .within) (sa .some) (sb .some) (word w h _ ha) (omega (arith, wide-at-most-64 w h))
+ranged-shrinks w h Neg a′ b′ a b sa sb ha hb =
+    difference-shrinks (just 0) a′ (just 0) a (same-range _) (sa .within) (le-refl 0) (sa .some) (pow-pos 64) (word w h _ ha)
+ranged-shrinks w h Mod a′ b′ a b sa sb ha hb =
+    rest-shrinks a′ b′ a b (sa .within) (sb .within) (sa .some) (sb .some) (word w h _ ha) (word w h _ hb)
+ranged-shrinks w h Xor a′ b′ a b sa sb ha hb =
+    xor-shrinks a′ b′ a b (sa .within) (sb .within) (sa .some) (sb .some) (word w h _ ha) (word w h _ hb)
 ranged-shrinks w h Mov a′ b′ a b sa sb ha hb = sb
 ranged-shrinks w h Arsh a′ b′ a b sa sb ha hb = signed-right-shrinks a′ b′ a b (sa .within) (sb .within) (sa .some) (sb .some) w ha hb

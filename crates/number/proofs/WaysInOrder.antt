@@ -56,10 +56,15 @@ unfolding settled
 settled-in-order d′ s′ d s f = go (leb (d′ .range .lo) (d′ .range .hi)) (leb (s′ .range .lo) (s′ .range .hi)) (leb-true _ _) (leb-true _ _)
   where
     go : (a b : Bool) → (a ≡ true → Some (d′ .range)) → (b ≡ true → Some (s′ .range))
-        → LeavesNoMore (cond (a && b) (Possible d′ s′) Excluded) (cond (leb (d .range .lo) (d .range .hi) && leb (s .range .lo) (s .range .hi)) (Possible d s) Excluded)
+        → LeavesNoMore (cond (a && b) (Possible d′ s′) Excluded)
+        (cond (leb (d .range .lo) (d .range .hi) && leb (s .range .lo) (s .range .hi)) (Possible d s) Excluded)
     go true true h k =
         let n = f (h refl) (k refl) in
-        rw (le-leb (d .range .lo) (d .range .hi) (some-of-within (n .0 .range) (h refl)), le-leb (s .range .lo) (s .range .hi) (some-of-within (n .1 .range) (k refl))) n
+        rw (
+          le-leb (d .range .lo) (d .range .hi) (some-of-within (n .0 .range) (h refl)),
+          le-leb (s .range .lo) (s .range .hi)
+              (some-of-within (n .1 .range) (k refl)),
+        ) n
     go true false h k = tt
     go false b h k = tt
 
@@ -85,7 +90,8 @@ common-in-order u′ v′ u v a b = record { low = omega (arith, a .low, b .low)
 learnt-form : (S : ℕ → Type 0) (p : Bits) → Learns S (Pair p) → Well 64 p
 learnt-form S p h = h .answer .0 .well
 
-equalBy-in-order : (S′ S : ℕ → Type 0) (r′ r : Learnt) (t′ t : Range) → Learns S′ r′ → Learns S r → LearntInside r′ r → RangeWithin t′ t → LeavesNoMore (equalBy r′ t′) (equalBy r t)
+equalBy-in-order : (S′ S : ℕ → Type 0) (r′ r : Learnt) (t′ t : Range) → Learns S′ r′ → Learns S r → LearntInside r′ r → RangeWithin t′ t
+    → LeavesNoMore (equalBy r′ t′) (equalBy r t)
 unfolding equalBy
 equalBy-in-order S′ S Nothing r t′ t h′ h i w = tt
 equalBy-in-order S′ S (Pair p′) Nothing t′ t h′ h i w = absurd i
@@ -101,12 +107,15 @@ unfolding apartFrom without empty
 within-the-rest t u v s w l h =
     by-equal (RangeWithin t) (v .lo) (v .hi)
     (λ e. by-equal (RangeWithin t) (u .lo) (v .lo)
-    (λ p. by-less (RangeWithin t) (v .lo) (u .hi) (λ m. record { low = omega (arith, l e p); high = w .high }) (λ m. absurd (omega (arith, l e p, w .high))))
+    (λ p. by-less (RangeWithin t) (v .lo) (u .hi) (λ m. record { low = omega (arith, l e p); high = w .high })
+    (λ m. absurd (omega (arith, l e p, w .high))))
     (λ n. by-equal (RangeWithin t) (u .hi) (v .lo)
-    (λ q. by-less (RangeWithin t) (u .lo) (v .lo) (λ m. record { low = w .low; high = omega (arith, h e q) }) (λ m. absurd (omega (arith, h e q, w .low)))) (λ _. w)))
+    (λ q. by-less (RangeWithin t) (u .lo) (v .lo) (λ m. record { low = w .low; high = omega (arith, h e q) })
+    (λ m. absurd (omega (arith, h e q, w .low)))) (λ _. w)))
     (λ _. w)
 
-module _ (u′ v′ u v : Range) (hu : RangeWithin u′ u) (hv : RangeWithin v′ v) (su : Some (apartFrom u′ v′)) (sv : Some (apartFrom v′ u′)) where
+module _ (u′ v′ u v : Range) (hu : RangeWithin u′ u) (hv : RangeWithin v′ v) (su : Some (apartFrom u′ v′))
+    (sv : Some (apartFrom v′ u′)) where
   left : ApartLeft u′ v′ (apartFrom u′ v′)
   left = apart-leaves u′ v′ su
 
@@ -125,20 +134,35 @@ module _ (u′ v′ u v : Range) (hu : RangeWithin u′ u) (hv : RangeWithin v�
   high-end-gone e f = go (ℕ-discrete (u′ .hi) (v′ .lo))
     where
       go : Dec (u′ .hi ≡ v′ .lo) → apartFrom u′ v′ .hi < v .lo
-      go (yes p) = omega (arith, left .no-upper-end (omega (arith, hv .low, hv .high, other .within .low, other .within .high)) p, hv .low, hv .high, other .within .low, other .within .high)
+      go (yes p) =
+          omega (
+            arith,
+            left .no-upper-end
+                (omega
+                (arith, hv .low, hv .high, other .within .low, other .within .high)) p,
+            hv .low,
+            hv .high,
+            other .within .low,
+            other .within .high,
+          )
       go (no n) = omega (arith, left .within .high, hu .high, hv .low, hv .high, other .within .low, other .within .high)
 
   apart-in-order : RangeWithin (apartFrom u′ v′) (apartFrom u v)
   apart-in-order =
       within-the-rest (apartFrom u′ v′) u v su
-      (record { low = omega (arith, left .within .low, hu .low); high = omega (arith, left .within .high, hu .high) }) low-end-gone high-end-gone
+      (record {
+        low = omega (arith, left .within .low, hu .low);
+        high = omega
+            (arith, left .within .high, hu .high);
+      }) low-end-gone high-end-gone
 
 module _ (d′ s′ d s : Number) (gd′ : Well 64 (d′ .bits)) (gs′ : Well 64 (s′ .bits)) (gd : Well 64 (d .bits)) (gs : Well 64 (s .bits))
     (hd : Narrower d′ d) (hs : Narrower s′ s) where
   pub equal-in-order : LeavesNoMore (equal d′ s′) (equal d s)
   unfolding equal
   equal-in-order =
-      equalBy-in-order (Both (d′ .bits) (s′ .bits)) (Both (d .bits) (s .bits)) _ _ _ _ (met-learns (d′ .bits) (s′ .bits) gd′ gs′) (met-learns (d .bits) (s .bits) gd gs)
+      equalBy-in-order (Both (d′ .bits) (s′ .bits)) (Both (d .bits) (s .bits)) _ _ _ _ (met-learns (d′ .bits) (s′ .bits) gd′ gs′)
+      (met-learns (d .bits) (s .bits) gd gs)
       (met-inside (d′ .bits) (s′ .bits) (d .bits) (s .bits) gd′ gs′ gd gs (hd .bits) (hs .bits))
       (common-in-order (d′ .range) (s′ .range) (d .range) (s .range) (hd .range) (hs .range))
 
@@ -169,16 +193,20 @@ module _ (d′ s′ d s : Number) (gd′ : Well 64 (d′ .bits)) (gs′ : Well 6
       settled-in-order _ _ _ _ (λ a b.
       let t = some-of-within (sharpened-range-within (d′ .bits) (apartFrom (bounds d′) (bounds s′))) a in
       let w = some-of-within (sharpened-range-within (s′ .bits) (apartFrom (bounds s′) (bounds d′))) b in (
-        sharpened-in-order (d′ .bits) (d .bits) gd′ gd (hd .bits) _ _ (apart-in-order (bounds d′) (bounds s′) (bounds d) (bounds s) bounds-first bounds-second t w) a,
-        sharpened-in-order (s′ .bits) (s .bits) gs′ gs (hs .bits) _ _ (apart-in-order (bounds s′) (bounds d′) (bounds s) (bounds d) bounds-second bounds-first w t) b,
+        sharpened-in-order (d′ .bits) (d .bits) gd′ gd (hd .bits) _ _
+            (apart-in-order (bounds d′) (bounds s′) (bounds d) (bounds s) bounds-first bounds-second t w) a,
+        sharpened-in-order (s′ .bits) (s .bits) gs′ gs (hs .bits) _ _
+            (apart-in-order (bounds s′) (bounds d′) (bounds s) (bounds d) bounds-second bounds-first w t) b,
       ))
 
 -- ---- bits in common
-resharpened-in-order : (n′ n : Number) → Well 64 (n′ .bits) → Well 64 (n .bits) → Narrower n′ n → Some (resharpened n′ .range) → Narrower (resharpened n′) (resharpened n)
+resharpened-in-order : (n′ n : Number) → Well 64 (n′ .bits) → Well 64 (n .bits) → Narrower n′ n → Some (resharpened n′ .range)
+    → Narrower (resharpened n′) (resharpened n)
 unfolding resharpened
 resharpened-in-order n′ n g′ g h = sharpened-in-order (n′ .bits) (n .bits) g′ g (h .bits) (n′ .range) (n .range) (h .range)
 
-disjointBy-in-order : (S′ T′ S T : ℕ → Type 0) (p′ q′ p q : Learnt) (d′ s′ d s : Number) → Learns S′ p′ → Learns T′ q′ → Learns S p → Learns T q
+disjointBy-in-order : (S′ T′ S T : ℕ → Type 0) (p′ q′ p q : Learnt) (d′ s′ d s : Number) → Learns S′ p′ → Learns T′ q′ → Learns S p
+    → Learns T q
     → LearntInside p′ p → LearntInside q′ q → RangeWithin (d′ .range) (d .range) → RangeWithin (s′ .range) (s .range)
     → LeavesNoMore (disjointBy p′ q′ d′ s′) (disjointBy p q d s)
 unfolding disjointBy
@@ -197,9 +225,11 @@ module _ (d′ s′ d s : Number) (gd′ : Well 64 (d′ .bits)) (gs′ : Well 6
   disjointOf-in-order : LeavesNoMore (disjointOf d′ s′) (disjointOf d s)
   unfolding disjointOf
   disjointOf-in-order =
-      disjointBy-in-order (Apart (d′ .bits) (s′ .bits .value)) (Apart (s′ .bits) (d′ .bits .value)) (Apart (d .bits) (s .bits .value)) (Apart (s .bits) (d .bits .value))
+      disjointBy-in-order (Apart (d′ .bits) (s′ .bits .value)) (Apart (s′ .bits) (d′ .bits .value)) (Apart (d .bits) (s .bits .value))
+      (Apart (s .bits) (d .bits .value))
       _ _ _ _ d′ s′ d s
-      (cleared-learns (d′ .bits) (s′ .bits .value) (gs′ .value-fits) gd′) (cleared-learns (s′ .bits) (d′ .bits .value) (gd′ .value-fits) gs′)
+      (cleared-learns (d′ .bits) (s′ .bits .value) (gs′ .value-fits) gd′)
+      (cleared-learns (s′ .bits) (d′ .bits .value) (gd′ .value-fits) gs′)
       (cleared-learns (d .bits) (s .bits .value) (gs .value-fits) gd) (cleared-learns (s .bits) (d .bits .value) (gd .value-fits) gs)
       (cleared-inside (d′ .bits) (s′ .bits) (d .bits) (s .bits) gd′ gs′ gd gs (hd .bits) (hs .bits))
       (cleared-inside (s′ .bits) (d′ .bits) (s .bits) (d .bits) gs′ gd′ gs gd (hs .bits) (hd .bits)) (hd .range) (hs .range)
@@ -209,7 +239,8 @@ module _ (d′ s′ d s : Number) (gd′ : Well 64 (d′ .bits)) (gs′ : Well 6
   overlappingOf-in-order =
       by-equal (λ r. LeavesNoMore r (overlappingOf d s)) (bitAnd (top (d′ .bits)) (top (s′ .bits))) 0 (λ _. tt)
       (λ n. rw (ne-eqb (bitAnd (top (d .bits)) (top (s .bits))) 0 (λ e. n
-      (none-shared-by-tops (d .bits) (s .bits) gd gs e _ _ (hd .bits _ (mem-top 64 (d′ .bits) gd′)) (hs .bits _ (mem-top 64 (s′ .bits) gs′)))))
+      (none-shared-by-tops (d .bits) (s .bits) gd gs e _ _ (hd .bits _ (mem-top 64 (d′ .bits) gd′))
+      (hs .bits _ (mem-top 64 (s′ .bits) gs′)))))
       (settled-in-order d′ s′ d s (λ _ _. (hd, hs))))
 
 module _ (d′ s′ d s : Number) (gd′ : Well 64 (d′ .bits)) (gs′ : Well 64 (s′ .bits)) (gd : Well 64 (d .bits)) (gs : Well 64 (s .bits))
@@ -224,27 +255,35 @@ module _ (d′ s′ d s : Number) (gd′ : Well 64 (d′ .bits)) (gs′ : Well 6
   pub disjoint-in-order : LeavesNoMore (disjoint d′ s′) (disjoint d s)
   unfolding disjoint
   disjoint-in-order =
-      if-left (disjoint d′ s′) (disjoint d s) Sharpened (left-map (disjoint d′ s′) _ (λ m n. Sharpened) (λ m n h. was-some m n (h .sharper)) (disjoint-leaves d′ s′ gd′ gs′))
-      (λ h. disjointOf-in-order (resharpened d′) (resharpened s′) (resharpened d) (resharpened s) (resharpened-form d′ gd′) (resharpened-form s′ gs′)
-      (resharpened-form d gd) (resharpened-form s gs) (resharpened-in-order d′ d gd′ gd hd (h .0)) (resharpened-in-order s′ s gs′ gs hs (h .1)))
+      if-left (disjoint d′ s′) (disjoint d s) Sharpened (left-map (disjoint d′ s′) _ (λ m n. Sharpened) (λ m n h. was-some m n (h .sharper))
+      (disjoint-leaves d′ s′ gd′ gs′))
+      (λ h. disjointOf-in-order (resharpened d′) (resharpened s′) (resharpened d) (resharpened s) (resharpened-form d′ gd′)
+      (resharpened-form s′ gs′)
+      (resharpened-form d gd) (resharpened-form s gs) (resharpened-in-order d′ d gd′ gd hd (h .0))
+      (resharpened-in-order s′ s gs′ gs hs (h .1)))
 
   pub overlapping-in-order : LeavesNoMore (overlapping d′ s′) (overlapping d s)
   unfolding overlapping
   overlapping-in-order =
-      if-left (overlapping d′ s′) (overlapping d s) Sharpened (left-map (overlapping d′ s′) _ (λ m n. Sharpened) (λ m n h. was-some m n (h .sharper)) (overlapping-leaves d′ s′))
-      (λ h. overlappingOf-in-order (resharpened d′) (resharpened s′) (resharpened d) (resharpened s) (resharpened-form d′ gd′) (resharpened-form s′ gs′)
-      (resharpened-form d gd) (resharpened-form s gs) (resharpened-in-order d′ d gd′ gd hd (h .0)) (resharpened-in-order s′ s gs′ gs hs (h .1)))
+      if-left (overlapping d′ s′) (overlapping d s) Sharpened
+      (left-map (overlapping d′ s′) _ (λ m n. Sharpened) (λ m n h. was-some m n (h .sharper)) (overlapping-leaves d′ s′))
+      (λ h. overlappingOf-in-order (resharpened d′) (resharpened s′) (resharpened d) (resharpened s) (resharpened-form d′ gd′)
+      (resharpened-form s′ gs′)
+      (resharpened-form d gd) (resharpened-form s gs) (resharpened-in-order d′ d gd′ gd hd (h .0))
+      (resharpened-in-order s′ s gs′ gs hs (h .1)))
 
 -- ---- signed orders
 turned-form : (n : Number) → Well 64 (n .bits) → Well 64 (turned n .bits)
 unfolding turned
 turned-form n g = computed-form 64 (inl refl) Add n (exact (2 ^ 63)) g (exact-in (2 ^ 63) (lit< tt) .form)
 
-turned-in-order : (n′ n : Number) → Well 64 (n′ .bits) → Well 64 (n .bits) → Narrower n′ n → Some (bounds n′) → Some (turned n′ .range) → Narrower (turned n′) (turned n)
+turned-in-order : (n′ n : Number) → Well 64 (n′ .bits) → Well 64 (n .bits) → Narrower n′ n → Some (bounds n′) → Some (turned n′ .range)
+    → Narrower (turned n′) (turned n)
 unfolding turned bounds base
 turned-in-order n′ n g′ g h s =
     let e = exact-in (2 ^ 63) (lit< tt) in
-    computed-in-order 64 (inl refl) Add n′ (exact (2 ^ 63)) n (exact (2 ^ 63)) g (e .form) h (narrower-than-itself (exact (2 ^ 63))) (word-operand n′ g′ s)
+    computed-in-order 64 (inl refl) Add n′ (exact (2 ^ 63)) n (exact (2 ^ 63)) g (e .form) h (narrower-than-itself (exact (2 ^ 63)))
+    (word-operand n′ g′ s)
     (operand-of-member 64 (omega arith) (exact (2 ^ 63)) (2 ^ 63) e)
 
 sharpened-bounds : (p : Bits) (t : Range) → Some (sharpened p t .range) → Some (bounds (sharpened p t))
@@ -284,15 +323,18 @@ turnedBack-leaves-bounds d s (Possible u v) =
 
 told-leaves-bounds : (r : Relation) (d s : Number) → Left (told r d s) SomeBounds
 unfolding ordered orderedIn unequal disjoint disjointOf overlapping overlappingOf resharpened signedOrdered
-told-leaves-bounds (Below gap) d s = unless-leaves (ltb (bounds s .hi) (bounds d .lo + gap)) _ SomeBounds (λ e. settled-leaves-bounds (d .bits) (s .bits) _ _)
+told-leaves-bounds (Below gap) d s =
+    unless-leaves (ltb (bounds s .hi) (bounds d .lo + gap)) _ SomeBounds (λ e. settled-leaves-bounds (d .bits) (s .bits) _ _)
 told-leaves-bounds (SignedBelow gap) d s = turnedBack-leaves-bounds d s (ordered gap (turned d) (turned s))
 told-leaves-bounds (Exchanged r) d s =
-    exchanged-leaves (told r s d) SomeBounds (left-map (told r s d) SomeBounds (λ u v. SomeBounds v u) (λ u v h. (h .1, h .0)) (told-leaves-bounds r s d))
+    exchanged-leaves (told r s d) SomeBounds (left-map (told r s d) SomeBounds (λ u v. SomeBounds v u) (λ u v h. (h .1, h .0))
+    (told-leaves-bounds r s d))
 told-leaves-bounds Same d s = equal-leaves-bounds d s
 told-leaves-bounds Different d s = settled-leaves-bounds (d .bits) (s .bits) _ _
 told-leaves-bounds Disjoint d s = disjointBy-leaves-bounds _ _ (resharpened d) (resharpened s)
 told-leaves-bounds Overlapping d s =
-    unless-leaves (eqb (bitAnd (top (resharpened d .bits)) (top (resharpened s .bits))) 0) (settled (resharpened d) (resharpened s)) SomeBounds
+    unless-leaves (eqb (bitAnd (top (resharpened d .bits)) (top (resharpened s .bits))) 0)
+    (settled (resharpened d) (resharpened s)) SomeBounds
     (λ e. settled-leaves-bounds (d .bits) (s .bits) (d .range) (s .range))
 
 pub refined-leaves-bounds : (c : Comparison) (way : Bool) (d s : Number) → Left (refined c way d s) SomeBounds
@@ -303,10 +345,12 @@ record Movable (n : Number) : Type 0 where
   form : Well 64 (n .bits)
   some : Some (bounds n)
 
-ordered-leaves-movable : (gap : ℕ) (d s : Number) → Well 64 (d .bits) → Well 64 (s .bits) → Left (ordered gap d s) (λ u v. Movable u × Movable v)
+ordered-leaves-movable : (gap : ℕ) (d s : Number) → Well 64 (d .bits) → Well 64 (s .bits)
+    → Left (ordered gap d s) (λ u v. Movable u × Movable v)
 ordered-leaves-movable gap d s gd gs =
     left-map (ordered gap d s) _ (λ u v. Movable u × Movable v)
-    (λ u v h. (record { form = h .0 .sharper .form-first gd; some = h .1 .0 }, record { form = h .0 .sharper .form-second gs; some = h .1 .1 }))
+    (λ u v h.
+    (record { form = h .0 .sharper .form-first gd; some = h .1 .0 }, record { form = h .0 .sharper .form-second gs; some = h .1 .1 }))
     (left-both (ordered gap d s) (OrderLeft gap d s) SomeBounds (ordered-leaves gap d s) (told-leaves-bounds (Below gap) d s))
 
 module _ (d′ d : Number) (gd′ : Well 64 (d′ .bits)) (gd : Well 64 (d .bits)) (hd : Narrower d′ d) where
@@ -320,46 +364,59 @@ module _ (d′ d : Number) (gd′ : Well 64 (d′ .bits)) (gd : Well 64 (d .bits
 
 module _ (d′ s′ d s : Number) (gd′ : Well 64 (d′ .bits)) (gs′ : Well 64 (s′ .bits)) (gd : Well 64 (d .bits)) (gs : Well 64 (s .bits))
     (hd : Narrower d′ d) (hs : Narrower s′ s) where
-  turnedBack-in-order : (r′ r : Refined) → Left r′ (λ u v. Movable u × Movable v) → Left r (λ u v. Movable u × Movable v) → LeavesNoMore r′ r
+  turnedBack-in-order : (r′ r : Refined) → Left r′ (λ u v. Movable u × Movable v) → Left r (λ u v. Movable u × Movable v)
+      → LeavesNoMore r′ r
       → LeavesNoMore (turnedBack d′ s′ r′) (turnedBack d s r)
   unfolding turnedBack
   turnedBack-in-order Excluded r l′ l h = tt
   turnedBack-in-order (Possible u′ v′) Excluded l′ l h = absurd h
   turnedBack-in-order (Possible u′ v′) (Possible u v) l′ l h =
-      firsts-in-order (equal d′ (turned u′)) (equal s′ (turned v′)) (equal d (turned u)) (equal s (turned v)) (back-in-order d′ d gd′ gd hd u′ u (l′ .0) (l .0) (h .0)) (back-in-order s′ s gs′ gs hs v′ v (l′ .1) (l .1) (h .1))
+      firsts-in-order (equal d′ (turned u′)) (equal s′ (turned v′)) (equal d (turned u)) (equal s (turned v))
+      (back-in-order d′ d gd′ gd hd u′ u (l′ .0) (l .0) (h .0)) (back-in-order s′ s gs′ gs hs v′ v (l′ .1) (l .1) (h .1))
 
-  turned-ordered-in-order : (gap : ℕ) → Some (bounds d′) → Some (bounds s′) → LeavesNoMore (ordered gap (turned d′) (turned s′)) (ordered gap (turned d) (turned s))
+  turned-ordered-in-order : (gap : ℕ) → Some (bounds d′) → Some (bounds s′)
+      → LeavesNoMore (ordered gap (turned d′) (turned s′)) (ordered gap (turned d) (turned s))
   turned-ordered-in-order gap a b =
       let r′ = ordered gap (turned d′) (turned s′) in
       let A : Type 0 = Some (turned d′ .range) × Some (turned s′ .range) in
       if-left r′ (ordered gap (turned d) (turned s)) A
       (left-map r′ (OrderLeft gap (turned d′) (turned s′)) (λ u v. A)
-      (λ u v k. let h = k .sharper in (some-of-within (h .first .range) (h .some-first), some-of-within (h .second .range) (h .some-second)))
+      (λ u v k. let h = k .sharper in (
+        some-of-within (h .first .range) (h .some-first),
+        some-of-within (h .second .range)
+            (h .some-second),
+      ))
       (ordered-leaves gap (turned d′) (turned s′)))
-      (λ h. ordered-in-order (turned d′) (turned s′) (turned d) (turned s) (turned-form d′ gd′) (turned-form s′ gs′) (turned-form d gd) (turned-form s gs)
+      (λ h. ordered-in-order (turned d′) (turned s′) (turned d) (turned s) (turned-form d′ gd′) (turned-form s′ gs′) (turned-form d gd)
+      (turned-form s gs)
       (turned-in-order d′ d gd′ gd hd a (h .0)) (turned-in-order s′ s gs′ gs hs b (h .1)) gap)
 
   pub signedOrdered-in-order : (gap : ℕ) → LeavesNoMore (signedOrdered gap d′ s′) (signedOrdered gap d s)
   unfolding signedOrdered
   signedOrdered-in-order gap =
       if-left (signedOrdered gap d′ s′) (signedOrdered gap d s) (Some (bounds d′) × Some (bounds s′))
-      (left-map (signedOrdered gap d′ s′) (SignedLeft gap d′ s′) (λ u v. Some (bounds d′) × Some (bounds s′)) (λ u v k. (k .some-bounds-first, k .some-bounds-second))
+      (left-map (signedOrdered gap d′ s′) (SignedLeft gap d′ s′) (λ u v. Some (bounds d′) × Some (bounds s′))
+      (λ u v k. (k .some-bounds-first, k .some-bounds-second))
       (signedOrdered-leaves gap d′ s′ gd′ gs′))
-      (λ h. turnedBack-in-order (ordered gap (turned d′) (turned s′)) (ordered gap (turned d) (turned s)) (ordered-leaves-movable gap (turned d′) (turned s′) (turned-form d′ gd′) (turned-form s′ gs′))
+      (λ h. turnedBack-in-order (ordered gap (turned d′) (turned s′)) (ordered gap (turned d) (turned s))
+      (ordered-leaves-movable gap (turned d′) (turned s′) (turned-form d′ gd′) (turned-form s′ gs′))
       (ordered-leaves-movable gap (turned d) (turned s) (turned-form d gd) (turned-form s gs)) (turned-ordered-in-order gap (h .0) (h .1)))
 
 -- ---- every comparison, by the relation that a way says
-told-in-order : (r : Relation) (d′ s′ d s : Number) → Well 64 (d′ .bits) → Well 64 (s′ .bits) → Well 64 (d .bits) → Well 64 (s .bits) → Narrower d′ d → Narrower s′ s
+told-in-order : (r : Relation) (d′ s′ d s : Number) → Well 64 (d′ .bits) → Well 64 (s′ .bits) → Well 64 (d .bits) → Well 64 (s .bits)
+    → Narrower d′ d → Narrower s′ s
     → LeavesNoMore (told r d′ s′) (told r d s)
 told-in-order (Below gap) d′ s′ d s gd′ gs′ gd gs hd hs = ordered-in-order d′ s′ d s gd′ gs′ gd gs hd hs gap
 told-in-order (SignedBelow gap) d′ s′ d s gd′ gs′ gd gs hd hs = signedOrdered-in-order d′ s′ d s gd′ gs′ gd gs hd hs gap
-told-in-order (Exchanged r) d′ s′ d s gd′ gs′ gd gs hd hs = exchanged-in-order (told r s′ d′) (told r s d) (told-in-order r s′ d′ s d gs′ gd′ gs gd hs hd)
+told-in-order (Exchanged r) d′ s′ d s gd′ gs′ gd gs hd hs =
+    exchanged-in-order (told r s′ d′) (told r s d) (told-in-order r s′ d′ s d gs′ gd′ gs gd hs hd)
 told-in-order Same d′ s′ d s gd′ gs′ gd gs hd hs = equal-in-order d′ s′ d s gd′ gs′ gd gs hd hs
 told-in-order Different d′ s′ d s gd′ gs′ gd gs hd hs = unequal-in-order d′ s′ d s gd′ gs′ gd gs hd hs
 told-in-order Disjoint d′ s′ d s gd′ gs′ gd gs hd hs = disjoint-in-order d′ s′ d s gd′ gs′ gd gs hd hs
 told-in-order Overlapping d′ s′ d s gd′ gs′ gd gs hd hs = overlapping-in-order d′ s′ d s gd′ gs′ gd gs hd hs
 
-pub refined-in-order : (c : Comparison) (way : Bool) (d′ s′ d s : Number) → Well 64 (d′ .bits) → Well 64 (s′ .bits) → Well 64 (d .bits) → Well 64 (s .bits)
+pub refined-in-order : (c : Comparison) (way : Bool) (d′ s′ d s : Number) → Well 64 (d′ .bits) → Well 64 (s′ .bits) → Well 64 (d .bits)
+    → Well 64 (s .bits)
     → Narrower d′ d → Narrower s′ s → LeavesNoMore (refined c way d′ s′) (refined c way d s)
 refined-in-order c way d′ s′ d s gd′ gs′ gd gs hd hs =
     rw (refined-is-told c way d′ s′, refined-is-told c way d s) (told-in-order (relation c way) d′ s′ d s gd′ gs′ gd gs hd hs)

@@ -4,12 +4,14 @@ use mathlib.Core.Bool.{Bool}
 use Prim.Native.Nat.{ℕ, _^_, _≤_, _<_}
 use Rattle.word.specs.Word.{compare}
 use Rattle.word.specs.declared.Comparison.{Comparison}
+use Rattle.word.specs.declared.Operation.{Operation}
 use Rattle.known_bits.specs.KnownBits.{Well, Mem}
 use Rattle.known_bits.specs.declared.Bits.{Bits}
 use Rattle.number.specs.declared.Range.{Range}
 use Rattle.number.specs.declared.Number.{Number}
 use Rattle.number.specs.declared.Refined.{Refined}
 use Rattle.number.specs.declared.Refined.the-variants.{Excluded, Possible}
+use Rattle.number.specs.Computed.{modulo, second, computed}
 
 -- x lies in the range
 pub record Within (r : Range) (x : ℕ) : Type 0 where
@@ -54,6 +56,14 @@ Kept (Possible d s) x y = In d x × In s y
 abbrev pub Left : Refined → (Number → Number → Type 0) → Type 0
 Left Excluded P = Unit {0}
 Left (Possible d s) P = P d s
+
+-- no range on the way is empty: of an operand, of what the operation takes of it, of the result. So it is where each operand has a number
+pub record NoneEmpty (w : ℕ) (op : Operation) (a b : Number) : Type 0 where
+  pub first : a .range .lo ≤ a .range .hi
+  pub first-taken : modulo (2 ^ w) a .lo ≤ modulo (2 ^ w) a .hi
+  pub other : b .range .lo ≤ b .range .hi
+  pub other-taken : second w op b .lo ≤ second w op b .hi
+  pub result : computed w op a b .range .lo ≤ computed w op a b .range .hi
 
 -- where more is known a way leaves nothing, or it left something before, and each number is narrower
 abbrev pub LeavesNoMore : Refined → Refined → Type 0
