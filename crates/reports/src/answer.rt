@@ -1,50 +1,63 @@
 // What the verifier answers: in a line, as an exit status, and both said.
+ghost use mathlib.Core.List.{_++_};
+ghost use mathlib.Core.Path.{_≡_};
 ghost use Prim.Native.Nat.{_≤_};
 ghost use lib.ListN.{length};
+ghost use Rattle.text.specs.Buffer.{Put, decimal};
+ghost use Rattle.reports.specs.Line.{refusalText, findingText, answerText, findingStatus, answerStatus};
 use analysis::Answer;
 use analysis::Finding;
 use analysis::Reason;
 use reasons::put_sentence;
 use reasons::reason_number;
 use terminal::ending::finish;
-use text::page::write_letter;
-use text::page::write_number;
+use text::buffer::put;
+use text::buffer::put_decimal;
+use text::buffer::put_text;
 
-fn write_sentence(out: &mut [u8], at: usize, reason: Reason) -> usize
-    requires { ⌜ at ≤ length (now out) ⌝ }
-    ensures { λ r. ⌜ (at ≤ r) × (r ≤ length (now (out .entry))) ⌝ }
+// A number in decimal, between two texts.
+fn put_number(out: &mut [u8], at: usize, before: &[u8], n: u64, after: &[u8]) -> usize
+    ensures { λ r. ⌜ Put (now (out .entry)) at (now (before .entry) ++ decimal n ++ now (after .entry)) (now (out .exit)) r ⌝ }
 {
-    put_sentence(out, at, reason)
+    let a = put_text(out, at, before);
+    let b = put_decimal(out, a, n);
+    put_text(out, b, after)
 }
 
-fn write_refusal(out: &mut [u8], reason: Reason, place: u64) -> usize
-    ensures { λ r. ⌜ r ≤ length (now (out .entry)) ⌝ }
+fn put_refusal(out: &mut [u8], reason: Reason, place: u64) -> usize
+    ensures { λ r. ⌜ Put (now (out .entry)) 0 (refusalText reason place) (now (out .exit)) r ⌝ }
 {
-    let a = write_number(out, 0, b"refused: reason ", reason_number(reason), b"");
-    let b = write_number(out, a, b" at instruction ", place, b": ");
-    let c = write_sentence(out, b, reason);
-    write_letter(out, c, b'\n')
+    let a = put_number(
+        out,
+        0,
+        b"refused: reason ",
+        reason_number(reason),
+        b" at instruction ",
+    );
+    let b = put_number(out, a, b"", place, b": ");
+    let c = put_sentence(out, b, reason);
+    put(out, c, b'\n')
 }
 
-fn finding_line(finding: Finding, n: u64, out: &mut [u8]) -> usize
-    ensures { λ r. ⌜ r ≤ length (now (out .entry)) ⌝ }
+fn put_finding(finding: Finding, n: u64, out: &mut [u8]) -> usize
+    ensures { λ r. ⌜ Put (now (out .entry)) 0 (findingText finding n) (now (out .exit)) r ⌝ }
 {
     match finding {
-        Finding::Accepted => write_number(out, 0, b"accepted: at most ", n, b" steps\n"),
-        Finding::Refused { reason, place } => write_refusal(out, reason, place),
+        Finding::Accepted => put_number(out, 0, b"accepted: at most ", n, b" steps\n"),
+        Finding::Refused { reason, place } => put_refusal(out, reason, place),
     }
 }
 
 // The answer on a program of n instructions.
-pub fn answer_line(answer: Answer, n: u64, out: &mut [u8]) -> usize
-    ensures { λ r. ⌜ r ≤ length (now (out .entry)) ⌝ }
+pub fn put_answer(answer: Answer, n: u64, out: &mut [u8]) -> usize
+    ensures { λ r. ⌜ Put (now (out .entry)) 0 (answerText answer n) (now (out .exit)) r ⌝ }
 {
     match answer {
         Answer::Judgement(judged) => {
             let finding = judged.finding;
-            finding_line(finding, n, out)
+            put_finding(finding, n, out)
         }
-        Answer::ScratchTooSmall { words } => write_number(
+        Answer::ScratchTooSmall { words } => put_number(
             out,
             0,
             b"not verified: this takes ",
@@ -54,24 +67,32 @@ pub fn answer_line(answer: Answer, n: u64, out: &mut [u8]) -> usize
     }
 }
 
-// The digit of the exit status that goes with the answer: 0 yes, 1 no, 2 where nothing was answered.
-pub fn status_of(answer: Answer) -> u8 {
+fn finding_status(finding: Finding) -> u8
+    ensures { λ r. ⌜ r ≡ findingStatus finding ⌝ }
+{
+    match finding {
+        Finding::Accepted => b'0',
+        Finding::Refused {
+            reason: _,
+            place: _,
+        } => b'1',
+    }
+}
+
+// The digit of the exit status that goes with the answer.
+pub fn status_of(answer: Answer) -> u8
+    ensures { λ r. ⌜ r ≡ answerStatus answer ⌝ }
+{
     match answer {
         Answer::Judgement(judged) => {
             let finding = judged.finding;
-            match finding {
-                Finding::Accepted => b'0',
-                Finding::Refused {
-                    reason: _,
-                    place: _,
-                } => b'1',
-            }
+            finding_status(finding)
         }
         Answer::ScratchTooSmall { words: _ } => b'2',
     }
 }
 
 pub fn conclude(answer: Answer, program: &[u8], out: &mut [u8]) {
-    let n = answer_line(answer, (program.len() / 8) as u64, out);
+    let n = put_answer(answer, (program.len() / 8) as u64, out);
     finish(out, n, status_of(answer));
 }
