@@ -34,10 +34,10 @@ extern "C" {
 
 #define PW_INSTRUCTION_BYTES 8
 #define PW_MAX_INSTRUCTIONS 4096
-#define PW_MAX_RECORD 1024         /* bytes */
-#define PW_STACK_BYTES 512         /* a stack has exactly so many */
-#define PW_ANSWER_WORDS 4          /* an answer of so many words has room for what pw_verify says, and for what pw_run says */
-#define PW_RUN_WORDS 3             /* pw_run needs no more than so many, and changes no other */
+#define PW_MAX_RECORD 1024          /* bytes */
+#define PW_STACK_BYTES 512          /* a stack has exactly so many */
+#define PW_ANSWER_WORDS 4           /* an answer has so many words or more; that is enough for pw_run too */
+#define PW_RUN_WORDS 3              /* pw_run needs only so many, and changes no other */
 #define PW_SCRATCH_WORDS_MAX 229376 /* pw_scratch_words(PW_MAX_INSTRUCTIONS): enough for every program, 1.75 MiB */
 
 /* ---- codes that the functions return */
@@ -60,7 +60,7 @@ extern "C" {
 #define PW_REASON 0
 #define PW_PLACE 1 /* the index of the instruction; 0 for reasons 1 and 2 */
 #define PW_WORK 2  /* instructions looked at and values of registers copied or joined: at most 25 for each instruction, and 11 */
-#define PW_BOUND 3 /* the steps that are enough for every run of the program: as many as it has instructions */
+#define PW_BOUND 3 /* the steps that are enough for every run of an accepted program: as many as it has instructions; otherwise 0 */
 #define PW_WORDS 0
 
 #define PW_VALUE 0

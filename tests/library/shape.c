@@ -55,6 +55,7 @@ int main(void) {
     expect(verify(dead_code, sizeof dead_code, 0, 0, 167, 5) == PW_SCRATCH_TOO_SMALL && says(168, 0, 0) && scratch_as_it_was(),
            "too little memory before dead code");
     expect(verify(dead_code, sizeof dead_code, 0, 0, 168, 5) == PW_REFUSED && says(PW_REASON_DEAD_CODE, 2, 0), "dead code");
-    expect(verify(short_one, 8, 0, 0, 0, 5) == PW_REFUSED && says(PW_REASON_LEAVES, 0, 0) && scratch_as_it_was(), "reason 6 before memory");
+    expect(verify(short_one, 8, 0, 0, 10, 5) == PW_REFUSED && says(PW_REASON_LEAVES, 0, 0) && scratch_as_it_was(),
+           "reason 6 before memory");
     return wrong;
 }
