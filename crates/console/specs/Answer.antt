@@ -27,13 +27,13 @@ use Rattle.console.specs.declared.request.Numbers.the-variants as all
 use Rattle.console.specs.declared.request.Sizes.{Sizes}
 use Rattle.console.specs.declared.request.Sizes.the-variants as both
 use Rattle.known_bits.specs.declared.Bits.{Bits}
-use Rattle.known_bits.specs.KnownBits.{Sound}
+use Rattle.known_bits.specs.KnownBits.{Sound, Best}
 use Rattle.console.specs.declared.bits.Asked.{Asked}
 use Rattle.console.specs.declared.bits.Asked.the-variants as asked
 use Rattle.console.specs.declared.answer.Reply.{Reply}
 use Rattle.console.specs.declared.answer.Reply.the-variants.{Ran, Pair, Found, Bad}
 use Rattle.console.specs.Request.{word, after, blank, numbersOf, sizesOf}
-use Rattle.console.specs.Bits.{askedOf, places, Wanted}
+use Rattle.console.specs.Bits.{askedOf, places, Wanted, BestWanted}
 
 -- the reply to a run by what was read of it: bad where some of it is not, refused where R is not the record's length,
 -- and what the machine comes to elsewhere
@@ -78,10 +78,12 @@ replyTo line n k stack size =
     cond (hasVerb (chars "run") line) (runReply (after line) n k stack)
     (cond (hasVerb (chars "verify") line) (verifyReply (after line) n size) Bad)
 
--- r is a reply to what is asked: bad where it says nothing, and elsewhere a pair that has all the numbers that the task is about
+-- r is a reply to what is asked: bad where it says nothing, and elsewhere a pair that has all the numbers that the task is about, the best
+-- one where that is demanded
 abbrev pub Told : Asked → Reply → Type 0
 Told asked.Not r = r ≡ Bad
-Told (asked.For task width a b) r = (p : Bits) × (r ≡ Pair p) × Sound 64 (Wanted task (places width) a b) p
+Told (asked.For task width a b) r =
+    (p : Bits) × (r ≡ Pair p) × Sound 64 (Wanted task (places width) a b) p × (BestWanted task (places width) b → Best 64 (Wanted task (places width) a b) p)
 
 -- r is a reply to the line: about known bits, one to what is asked; to any other line, the reply that is defined above
 pub record Replied (line : List ℕ) (n k : ℕ) (stack : List ℕ) (size : ℕ) (r : Reply) : Type 0 where

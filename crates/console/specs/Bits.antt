@@ -8,7 +8,8 @@ use lib.Dec.{eqb}
 use lib.ListN.{getD}
 use Rattle.word.specs.declared.Operation.the-variants.{Add, Sub, Mul, Div, Or, And, Lsh, Rsh, Neg, Mod, Xor, Mov, Arsh}
 use Rattle.known_bits.specs.declared.Bits.{Bits}
-use Rattle.known_bits.specs.KnownBits.{Well, Sound, Results, Cuts}
+use Rattle.known_bits.specs.KnownBits.{Well, Sound, Best, Results, Cuts}
+use Rattle.known_bits.specs.Computed.{Demanded}
 use Rattle.text.specs.Buffer.{chars}
 use Rattle.text.specs.Pair.{pair}
 use Rattle.text.specs.Scan.{equal}
@@ -97,6 +98,13 @@ Wanted (Alu op) w a b z = Results w op a b z
 Wanted Join w a b z = Cuts w a z ⊎ Cuts w b z
 Wanted Cut w a b z = Cuts w a z
 
--- the pair r has all the numbers that the task is about
+-- where the best pair is demanded: of an operation as docs/VERIFIER.md says, of a join and of a cut always
+abbrev pub BestWanted : Task → ℕ → Bits → Type 0
+BestWanted (Alu op) w b = Demanded w op b
+BestWanted Join w b = Unit {0}
+BestWanted Cut w b = Unit {0}
+
+-- the pair r has all the numbers that the task is about, and is the best one where that is demanded
 pub record Serves (task : Task) (w : ℕ) (a b r : Bits) : Type 0 where
   pub sound : Well 64 a → Well 64 b → Sound 64 (Wanted task w a b) r
+  pub best : BestWanted task w b → Well 64 a → Well 64 b → Best 64 (Wanted task w a b) r
