@@ -4,9 +4,6 @@ use Rattle.machine.specs.Machine.{badProgram}
 use Rattle.interpreter.proofs.bad_program.Statement.{statement}
 use Rattle.interpreter.proofs.bad_program.Tie as tie
 
-returns : tie.Need-returns
-unfolding badProgram
-returns c = refl
-
 pub bad-program-spec : {M : Type 1} → statement M
-bad-program-spec = tie.close (tie.spec returns)
+unfolding badProgram
+bad-program-spec = tie.close (tie.spec (λ c. refl))
