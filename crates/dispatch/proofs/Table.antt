@@ -1,7 +1,7 @@
 -- What the default arm of a match on numbers is told, and a rule at every number without an arm: one test that antt computes.
 use mathlib.Core.Path.{_≡_, refl, _∙_, sym, ap, subst}
 use mathlib.Core.Bool.{Bool, true, false, _&&_, _||_}
-use mathlib.Core.List.{List, [], _∷_}
+use mathlib.Core.List.{List, [], _∷_, _++_}
 use Prim.Native.Nat.{ℕ, zero, suc, _<_}
 use native.Mathlib.Nat.{not-suc-le-zero}
 use native.Mathlib.Omega.{arith}
@@ -36,13 +36,14 @@ past-before : (N : Type 0) (ks : List ℕ) (x : ℕ) → Past N ks x → N
 past-before N [] x p = p
 past-before N (k ∷ ks) x p = past-before (N × (x ≡ k → ⊥)) ks x p .0
 
-pub past-no-key : (N : Type 0) (ks : List ℕ) (x : ℕ) → Past N ks x → hasKey ks x ≡ false
-past-no-key N [] x p = refl
-past-no-key N (k ∷ ks) x p =
-    let other = past-before (N × (x ≡ k → ⊥)) ks x p .1 in rw (ne-eqb k x (λ e. other (sym e))) (past-no-key (N × (x ≡ k → ⊥)) ks x p)
+-- what is no key of some arms and of others is no key of all
+pub no-key : (N : Type 0) (ks others : List ℕ) (x : ℕ) → Past N ks x → hasKey others x ≡ false → hasKey (ks ++ others) x ≡ false
+no-key N [] others x p e = e
+no-key N (k ∷ ks) others x p e =
+    let other = past-before (N × (x ≡ k → ⊥)) ks x p .1 in
+    rw (ne-eqb k x (λ e. other (sym e))) (no-key (N × (x ≡ k → ⊥)) ks others x p e)
 
 -- f holds at whatever is no key
 pub default-holds : (f : ℕ → Bool) (n : ℕ) (ks : List ℕ) → all-below (λ k. hasKey ks k || f k) n ≡ true
-    → (x : ℕ) → x < n → Past (Unit {0}) ks x → f x ≡ true
-default-holds f n ks e x h p =
-    let t = holds-below (λ k. hasKey ks k || f k) n e x h in rw (past-no-key (Unit {0}) ks x p) at t
+    → (x : ℕ) → x < n → hasKey ks x ≡ false → f x ≡ true
+default-holds f n ks e x h none = let t = holds-below (λ k. hasKey ks k || f k) n e x h in rw none at t

@@ -16,37 +16,11 @@ Inv-loop m₀ i₀ m i = (i ≤ length m₀) × ((length m ≡ length m₀) × (
 abbrev μ-loop : tie.MeasureT-loop
 μ-loop m₀ i₀ m i = length m₀ - i
 
-loop-holds : tie.Need-loop-holds Inv-loop μ-loop
-loop-holds c = (search needs, (refl, fill-none _ 0))
-
-slice-write-m : tie.Need-slice-write-m Inv-loop μ-loop
-slice-write-m c = omega arith
-
-add-i : tie.Need-add-i Inv-loop μ-loop
-add-i c = omega arith
-
-loop-less : tie.Need-loop-less Inv-loop μ-loop
-loop-less c = omega arith
-
-loop-again : tie.Need-loop-again Inv-loop μ-loop
-loop-again c = (omega arith, (simp length-set (c .before .loop .inv .1 .0), rw (c .before .loop .inv .1 .1) (fill-more (c .before .loop .i) 0 (c .before .before .args .m .now) (omega arith))))
-
-same-length : tie.Need-same-length Inv-loop μ-loop
-same-length c = c .before .loop .inv .1 .0
-
-returns : tie.Need-returns Inv-loop μ-loop
-returns c = let e : c .before .loop .i ≡ length (c .before .before .args .m .now) = omega arith in c .before .loop .inv .1 .1 ∙ rw (e, drop-length) (append-nil _)
-
 pub clear-spec : {M : Type 1} → statement M
 clear-spec =
     tie.close
     (tie.spec
-    Inv-loop
-    μ-loop
-    loop-holds
-    slice-write-m
-    add-i
-    loop-less
-    loop-again
-    same-length
-    returns)
+    Inv-loop μ-loop (λ c. (search needs, (refl, fill-none _ 0))) (λ c. omega arith) (λ c. omega arith) (λ c. omega arith)
+    (λ c. (omega arith, (simp length-set (c .before .loop .inv .1 .0), rw (c .before .loop .inv .1 .1) (fill-more (c .before .loop .i) 0 (c .before .before .args .m .now) (omega arith)))))
+    (λ c. c .before .loop .inv .1 .0)
+    (λ c. let e : c .before .loop .i ≡ length (c .before .before .args .m .now) = omega arith in c .before .loop .inv .1 .1 ∙ rw (e, drop-length) (append-nil _)))

@@ -5,9 +5,6 @@ use borrow.Author.Needs.{needs}
 use Rattle.interpreter.proofs.overlap.Statement.{statement}
 use Rattle.interpreter.proofs.overlap.Tie as tie
 
-returns : tie.Need-returns
-unfolding overlap
-returns c = refl
-
 pub overlap-spec : {M : Type 1} → statement M
-overlap-spec = tie.close (tie.spec (λ c. search needs) (λ c. search needs) returns)
+unfolding overlap
+overlap-spec = tie.close (tie.spec (λ c. search needs) (λ c. search needs) (λ c. refl))

@@ -8,36 +8,17 @@ use borrow.Author.Needs.{needs}
 use Rattle.interpreter.proofs.refuses.Statement.{statement}
 use Rattle.interpreter.proofs.refuses.Tie as tie
 
-returns : tie.Need-returns
-unfolding refused badRecord badStack
-returns c = simp (sym (c .before .bad-program .ensures) ∙ c .if1 .taken)
-
-returns-2 : tie.Need-returns-2
-unfolding refused badRecord badStack
-returns-2 c = simp (sym (c .before .before .bad-program .ensures) ∙ c .before .if1 .left, lt-ltb _ _ (c .if2 .taken))
-
-returns-3 : tie.Need-returns-3
-unfolding refused badRecord badStack
-returns-3 c = simp (sym (c .before .before .before .bad-program .ensures) ∙ c .before .before .if1 .left, le-ltb _ _ (c .before .if2 .left), ne-eqb _ _ (c .if3 .taken))
-
-returns-4 : tie.Need-returns-4
-unfolding refused badRecord badStack
-returns-4 c = simp (sym (c .before .before .before .before .before .bad-program .ensures) ∙ c .before .before .before .before .if1 .left, le-ltb _ _ (c .before .before .before .if2 .left), eq-eqb _ _ (c .before .before .if3 .left), sym (c .before .bad-address .ensures) ∙ c .if4 .taken)
-
-returns-5 : tie.Need-returns-5
-unfolding refused badRecord badStack
-returns-5 c = simp (sym (c .before .before .before .before .before .before .before .bad-program .ensures) ∙ c .before .before .before .before .before .before .if1 .left, le-ltb _ _ (c .before .before .before .before .before .if2 .left), eq-eqb _ _ (c .before .before .before .before .if3 .left), sym (c .before .before .before .bad-address .ensures) ∙ c .before .before .if4 .left, sym (c .before .bad-address2 .ensures) ∙ c .if5 .taken)
-
-overlap-requires : tie.Need-overlap-requires
-overlap-requires c κs = (address-low _ (sym (c .before .before .before .bad-address .ensures) ∙ c .before .before .if4 .left), address-low _ (sym (c .before .bad-address2 .ensures) ∙ c .if5 .left), omega arith)
-
-returns-6 : tie.Need-returns-6
-unfolding refused badRecord badStack
-returns-6 c = simp (sym (c .before .before .before .before .before .before .before .before .bad-program .ensures) ∙ c .before .before .before .before .before .before .before .if1 .left, le-ltb _ _ (c .before .before .before .before .before .before .if2 .left), eq-eqb _ _ (c .before .before .before .before .before .if3 .left), sym (c .before .before .before .before .bad-address .ensures) ∙ c .before .before .before .if4 .left, sym (c .before .before .bad-address2 .ensures) ∙ c .before .if5 .left) (c .overlap .ensures)
-
 pub refuses-spec : {M : Type 1} → statement M
+unfolding refused badRecord badStack
 refuses-spec =
     tie.close
     (tie.spec
-    (λ c κs. search needs) returns returns-2 returns-3 (λ c κs. search needs) returns-4 (λ c κs. search needs)
-    returns-5 overlap-requires returns-6)
+    (λ c κs. search needs) (λ c. simp (sym (c .before .bad-program .ensures) ∙ c .if1 .taken))
+    (λ c. simp (sym (c .before .before .bad-program .ensures) ∙ c .before .if1 .left, lt-ltb _ _ (c .if2 .taken)))
+    (λ c. simp (sym (c .before .before .before .bad-program .ensures) ∙ c .before .before .if1 .left, le-ltb _ _ (c .before .if2 .left), ne-eqb _ _ (c .if3 .taken)))
+    (λ c κs. search needs)
+    (λ c. simp (sym (c .before .before .before .before .before .bad-program .ensures) ∙ c .before .before .before .before .if1 .left, le-ltb _ _ (c .before .before .before .if2 .left), eq-eqb _ _ (c .before .before .if3 .left), sym (c .before .bad-address .ensures) ∙ c .if4 .taken))
+    (λ c κs. search needs)
+    (λ c. simp (sym (c .before .before .before .before .before .before .before .bad-program .ensures) ∙ c .before .before .before .before .before .before .if1 .left, le-ltb _ _ (c .before .before .before .before .before .if2 .left), eq-eqb _ _ (c .before .before .before .before .if3 .left), sym (c .before .before .before .bad-address .ensures) ∙ c .before .before .if4 .left, sym (c .before .bad-address2 .ensures) ∙ c .if5 .taken))
+    (λ c κs. (address-low _ (sym (c .before .before .before .bad-address .ensures) ∙ c .before .before .if4 .left), address-low _ (sym (c .before .bad-address2 .ensures) ∙ c .if5 .left), omega arith))
+    (λ c. simp (sym (c .before .before .before .before .before .before .before .before .bad-program .ensures) ∙ c .before .before .before .before .before .before .before .if1 .left, le-ltb _ _ (c .before .before .before .before .before .before .if2 .left), eq-eqb _ _ (c .before .before .before .before .before .if3 .left), sym (c .before .before .before .before .bad-address .ensures) ∙ c .before .before .before .if4 .left, sym (c .before .before .bad-address2 .ensures) ∙ c .before .if5 .left) (c .overlap .ensures)))

@@ -18,41 +18,20 @@ Inv-loop program rec p s stack₀ budget regs₀ pc₀ live₀ n₀ stack regs p
 abbrev μ-loop : tie.MeasureT-loop
 μ-loop program rec p s stack₀ budget regs₀ pc₀ live₀ n₀ stack regs pc live n = budget - n
 
-loop-holds : tie.Need-loop-holds Inv-loop μ-loop
-loop-holds c = (search needs, (simp (length-set, length-replicate), (lit< tt, (refl, run-starts _ _ _ _ (c .before .before .before .pre .1)))))
-
-step-requires : tie.Need-step-requires Inv-loop μ-loop
-step-requires c κs = (c .before .before .before .loop .inv .1 .0, c .before .before .before .loop .inv .1 .1 .0)
-
-same-length : tie.Need-same-length Inv-loop μ-loop
-same-length c = c .before .before .before .before .before .step .kept .1 .1 .1 .1 .1 .1 .1 .0 ∙ c .before .before .before .before .before .before .before .before .before .loop .inv .1 .1 .1 .0
-
-returns : tie.Need-returns Inv-loop μ-loop
-returns c = run-ends _ _ _ _ _ _ _ _ (c .before .before .before .before .before .before .before .before .loop-test .taken) (c .before .before .before .before .before .step .ensures) _ (c .before .v .given .1) ∙ c .before .before .before .before .before .before .before .before .before .loop .inv .1 .1 .1 .1
-
-why-requires : tie.Need-why-requires Inv-loop μ-loop
-why-requires c κs = c .before .before .before .before .before .before .before .before .loop .inv .1 .1 .0
-
-same-length-2 : tie.Need-same-length-2 Inv-loop μ-loop
-same-length-2 c = c .before .before .before .before .before .step .kept .1 .1 .1 .1 .1 .1 .1 .0 ∙ c .before .before .before .before .before .before .before .before .before .loop .inv .1 .1 .1 .0
-
-returns-2 : tie.Need-returns-2 Inv-loop μ-loop
-unfolding stateOf
-returns-2 c = run-faults _ _ _ _ _ _ _ _ (c .before .before .before .before .before .before .before .before .loop-test .taken) (c .before .before .before .before .before .step .ensures) _ (c .before .enum-told .given .1) (λ k e. c .why .ensures _ _ _ k e) ∙ c .before .before .before .before .before .before .before .before .before .loop .inv .1 .1 .1 .1
-
-loop-again : tie.Need-loop-again Inv-loop μ-loop
-loop-again c = (omega arith, (c .before .before .before .before .before .step .ensures .sixteen, (go-narrow (c .before .before .before .before .before .step .ensures) _ _ (c .before .pc2 .given .1), (c .before .before .before .before .before .step .kept .1 .1 .1 .1 .1 .1 .1 .0 ∙ c .before .before .before .before .before .before .before .before .before .loop .inv .1 .1 .1 .0, run-goes _ _ _ _ _ _ _ _ (c .before .before .before .before .before .before .before .before .loop-test .taken) (c .before .before .before .before .before .step .ensures) _ _ (c .before .pc2 .given .1) ∙ c .before .before .before .before .before .before .before .before .before .loop .inv .1 .1 .1 .1))))
-
-same-length-3 : tie.Need-same-length-3 Inv-loop μ-loop
-same-length-3 c = c .before .loop .inv .1 .1 .1 .0
-
-returns-3 : tie.Need-returns-3 Inv-loop μ-loop
-returns-3 c = run-spent _ _ _ _ _ _ _ _ (c .loop-test .left) ∙ c .before .loop .inv .1 .1 .1 .1
-
 pub run-spec : {M : Type 1} → statement M
+unfolding stateOf
 run-spec =
     tie.close
     (tie.spec
-    Inv-loop μ-loop (λ c. search needs) (λ c. search needs) (λ c. search needs) loop-holds (λ c. search needs)
-    step-requires (λ c. search needs) (λ c. search needs) same-length returns (λ c. search needs) why-requires
-    same-length-2 returns-2 (λ c. search needs) loop-again same-length-3 returns-3)
+    Inv-loop μ-loop (λ c. search needs) (λ c. search needs) (λ c. search needs)
+    (λ c. (search needs, (simp (length-set, length-replicate), (lit< tt, (refl, run-starts _ _ _ _ (c .before .before .before .pre .1))))))
+    (λ c. search needs) (λ c κs. (c .before .before .before .loop .inv .1 .0, c .before .before .before .loop .inv .1 .1 .0))
+    (λ c. search needs) (λ c. search needs)
+    (λ c. c .before .before .before .before .before .step .kept .1 .1 .1 .1 .1 .1 .1 .0 ∙ c .before .before .before .before .before .before .before .before .before .loop .inv .1 .1 .1 .0)
+    (λ c. run-ends _ _ _ _ _ _ _ _ (c .before .before .before .before .before .before .before .before .loop-test .taken) (c .before .before .before .before .before .step .ensures) _ (c .before .v .given .1) ∙ c .before .before .before .before .before .before .before .before .before .loop .inv .1 .1 .1 .1)
+    (λ c. search needs) (λ c κs. c .before .before .before .before .before .before .before .before .loop .inv .1 .1 .0)
+    (λ c. c .before .before .before .before .before .step .kept .1 .1 .1 .1 .1 .1 .1 .0 ∙ c .before .before .before .before .before .before .before .before .before .loop .inv .1 .1 .1 .0)
+    (λ c. run-faults _ _ _ _ _ _ _ _ (c .before .before .before .before .before .before .before .before .loop-test .taken) (c .before .before .before .before .before .step .ensures) _ (c .before .enum-told .given .1) (λ k e. c .why .ensures _ _ _ k e) ∙ c .before .before .before .before .before .before .before .before .before .loop .inv .1 .1 .1 .1)
+    (λ c. search needs)
+    (λ c. (omega arith, (c .before .before .before .before .before .step .ensures .sixteen, (go-narrow (c .before .before .before .before .before .step .ensures) _ _ (c .before .pc2 .given .1), (c .before .before .before .before .before .step .kept .1 .1 .1 .1 .1 .1 .1 .0 ∙ c .before .before .before .before .before .before .before .before .before .loop .inv .1 .1 .1 .0, run-goes _ _ _ _ _ _ _ _ (c .before .before .before .before .before .before .before .before .loop-test .taken) (c .before .before .before .before .before .step .ensures) _ _ (c .before .pc2 .given .1) ∙ c .before .before .before .before .before .before .before .before .before .loop .inv .1 .1 .1 .1)))))
+    (λ c. c .before .loop .inv .1 .1 .1 .0) (λ c. run-spent _ _ _ _ _ _ _ _ (c .loop-test .left) ∙ c .before .loop .inv .1 .1 .1 .1))

@@ -6,14 +6,10 @@ use borrow.Author.Needs.{needs}
 use Rattle.interpreter.proofs.step.Statement.{statement}
 use Rattle.interpreter.proofs.step.Tie as tie
 
-returns : tie.Need-returns
-returns c = leads-to (step-off _ _ _ _ _ _ (c .if1 .taken)) (leads-fault _ _ _ _ _ (c .before .before .before .before .pre .0) _)
-
-returns-2 : tie.Need-returns-2
-returns-2 c = leads-to (step-at _ _ _ _ _ _ (c .before .before .before .before .before .before .if1 .left) _ (sym (c .before .before .before .before .before .parts-at .ensures .0))) (c .before .before .obey .ensures)
-
 pub step-spec : {M : Type 1} → statement M
 step-spec =
     tie.close
     (tie.spec
-    returns (λ c. search needs) (λ c κs. search needs) (λ c κs. search needs) (λ c. search needs) returns-2)
+    (λ c. leads-to (step-off _ _ _ _ _ _ (c .if1 .taken)) (leads-fault _ _ _ _ _ (c .before .before .before .before .pre .0) _))
+    (λ c. search needs) (λ c κs. search needs) (λ c κs. search needs) (λ c. search needs)
+    (λ c. leads-to (step-at _ _ _ _ _ _ (c .before .before .before .before .before .before .if1 .left) _ (sym (c .before .before .before .before .before .parts-at .ensures .0))) (c .before .before .obey .ensures)))

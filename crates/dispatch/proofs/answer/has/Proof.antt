@@ -6,9 +6,6 @@ use borrow.Author.Needs.{needs}
 use Rattle.dispatch.proofs.answer.has.Statement.{statement}
 use Rattle.dispatch.proofs.answer.has.Tie as tie
 
-returns : tie.Need-returns
-unfolding isSet bit
-returns c = refl
-
 pub has-spec : {M : Type 1} → statement M
-has-spec = tie.close (tie.spec (λ c. search needs) returns)
+unfolding isSet bit
+has-spec = tie.close (tie.spec (λ c. search needs) (λ c. refl))

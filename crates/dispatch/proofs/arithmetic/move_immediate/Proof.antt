@@ -6,17 +6,10 @@ use borrow.Author.Needs.{needs}
 use Rattle.dispatch.proofs.arithmetic.move_immediate.Statement.{statement}
 use Rattle.dispatch.proofs.arithmetic.move_immediate.Tie as tie
 
-returns : tie.Need-returns
-returns c = λ m. stops _ _ _ (unfit (not-true _ (c .if1 .taken))) _ _ m (search needs) _ _ _
-
-returns-2 : tie.Need-returns-2
-returns-2 c = λ m. stops _ _ _ (writing (le-leb 10 _ (c .if2 .taken))) _ _ m (search needs) _ _ _
-
-returns-3 : tie.Need-returns-3
-returns-3 c = λ m. passes _ _ _ (not-false _ (c .before .before .before .if1 .left)) (lt-leb 10 _ (c .before .before .if2 .left)) refl (c .keep .ensures m)
-
 pub move-immediate-spec : {M : Type 1} → statement M
 move-immediate-spec =
     tie.close
     (tie.spec
-    returns returns-2 (λ c κs. search needs) returns-3)
+    (λ c. λ m. stops _ _ _ (unfit (not-true _ (c .if1 .taken))) _ _ m (search needs) _ _ _)
+    (λ c. λ m. stops _ _ _ (writing (le-leb 10 _ (c .if2 .taken))) _ _ m (search needs) _ _ _) (λ c κs. search needs)
+    (λ c. λ m. passes _ _ _ (not-false _ (c .before .before .before .if1 .left)) (lt-leb 10 _ (c .before .before .if2 .left)) refl (c .keep .ensures m)))

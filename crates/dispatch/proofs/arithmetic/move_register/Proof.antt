@@ -5,20 +5,12 @@ use borrow.Author.Needs.{needs}
 use Rattle.dispatch.proofs.arithmetic.move_register.Statement.{statement}
 use Rattle.dispatch.proofs.arithmetic.move_register.Tie as tie
 
-returns : tie.Need-returns
-returns c = λ m. stops _ _ _ (unfit (not-true _ (c .if1 .taken))) _ _ m (search needs) _ _ _
-
-returns-2 : tie.Need-returns-2
-returns-2 c = λ m. stops _ _ _ (writing (le-leb 10 _ (c .if2 .taken))) _ _ m (search needs) _ _ _
-
-returns-3 : tie.Need-returns-3
-returns-3 c = λ m. stops _ _ _ (reading (told _ _ _ (c .before .has .ensures) (c .if3 .taken))) _ _ m (search needs) _ _ _
-
-returns-4 : tie.Need-returns-4
-returns-4 c = λ m. passes _ _ _ (not-false _ (c .before .before .before .before .before .if1 .left)) (lt-leb 10 _ (c .before .before .before .before .if2 .left)) (told _ _ _ (c .before .before .before .has .ensures) (c .before .before .if3 .left)) (c .keep .ensures m)
-
 pub move-register-spec : {M : Type 1} → statement M
 move-register-spec =
     tie.close
     (tie.spec
-    returns returns-2 (λ c κs. search needs) returns-3 (λ c κs. search needs) returns-4)
+    (λ c. λ m. stops _ _ _ (unfit (not-true _ (c .if1 .taken))) _ _ m (search needs) _ _ _)
+    (λ c. λ m. stops _ _ _ (writing (le-leb 10 _ (c .if2 .taken))) _ _ m (search needs) _ _ _) (λ c κs. search needs)
+    (λ c. λ m. stops _ _ _ (reading (told _ _ _ (c .before .has .ensures) (c .if3 .taken))) _ _ m (search needs) _ _ _)
+    (λ c κs. search needs)
+    (λ c. λ m. passes _ _ _ (not-false _ (c .before .before .before .before .before .if1 .left)) (lt-leb 10 _ (c .before .before .before .before .if2 .left)) (told _ _ _ (c .before .before .before .has .ensures) (c .before .before .if3 .left)) (c .keep .ensures m)))

@@ -4,14 +4,11 @@ use borrow.Author.Needs.{needs}
 use Rattle.dispatch.proofs.jumps.go.Statement.{statement}
 use Rattle.dispatch.proofs.jumps.go.Tie as tie
 
-returns : tie.Need-returns
-returns c = λ g m e. leads-go _ _ _ _ _ e _ _ _ _ (c .before .before .before .pre .mask-low) (jump-is _ g m _ _ _ _ (simp (c .before .before .if1 .taken) (rw (c .before .extend16 .ensures) at (c .wrapping-add-u64 .ensures))))
-
-returns-2 : tie.Need-returns-2
-returns-2 c = λ g m e. leads-go _ _ _ _ _ e _ _ _ _ (c .before .pre .mask-low) (jump-is _ g m _ _ _ _ (simp (c .if1 .left)))
-
 pub go-spec : {M : Type 1} → statement M
 go-spec =
     tie.close
     (tie.spec
-    (λ c. search needs) (λ c κs. search needs) (λ c κs. search needs) returns (λ c. search needs) returns-2)
+    (λ c. search needs) (λ c κs. search needs) (λ c κs. search needs)
+    (λ c. λ g m e. leads-go _ _ _ _ _ e _ _ _ _ (c .before .before .before .pre .mask-low) (jump-is _ g m _ _ _ _ (simp (c .before .before .if1 .taken) (rw (c .before .extend16 .ensures) at (c .wrapping-add-u64 .ensures)))))
+    (λ c. search needs)
+    (λ c. λ g m e. leads-go _ _ _ _ _ e _ _ _ _ (c .before .pre .mask-low) (jump-is _ g m _ _ _ _ (simp (c .if1 .left)))))

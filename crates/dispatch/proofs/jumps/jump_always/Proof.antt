@@ -6,14 +6,9 @@ use borrow.Author.Needs.{needs}
 use Rattle.dispatch.proofs.jumps.jump_always.Statement.{statement}
 use Rattle.dispatch.proofs.jumps.jump_always.Tie as tie
 
-returns : tie.Need-returns
-returns c = λ g m e. stops _ _ _ (unfit (not-true _ (c .if1 .taken))) _ _ m e _ _ _
-
-returns-2 : tie.Need-returns-2
-returns-2 c = λ g m e. passes _ _ _ (not-false _ (c .before .if1 .left)) refl refl (c .go .ensures g m e)
-
 pub jump-always-spec : {M : Type 1} → statement M
 jump-always-spec =
     tie.close
     (tie.spec
-    returns (λ c κs. search needs) returns-2)
+    (λ c. λ g m e. stops _ _ _ (unfit (not-true _ (c .if1 .taken))) _ _ m e _ _ _) (λ c κs. search needs)
+    (λ c. λ g m e. passes _ _ _ (not-false _ (c .before .if1 .left)) refl refl (c .go .ensures g m e)))

@@ -6,20 +6,13 @@ use borrow.Author.Needs.{needs}
 use Rattle.dispatch.proofs.jumps.jump_register.Statement.{statement}
 use Rattle.dispatch.proofs.jumps.jump_register.Tie as tie
 
-returns : tie.Need-returns
-returns c = λ g m e. stops _ _ _ (unfit (not-true _ (c .if1 .taken))) _ _ m e _ _ _
-
-returns-2 : tie.Need-returns-2
-returns-2 c = λ g m e. stops _ _ _ (reading (first-unset _ _ (told _ _ _ (c .before .has .ensures) (c .if2 .taken)))) _ _ m e _ _ _
-
-returns-3 : tie.Need-returns-3
-returns-3 c = λ g m e. stops _ _ _ (reading (second-unset _ _ (told _ _ _ (c .before .before .before .has .ensures) (c .before .before .if2 .left)) (told _ _ _ (c .before .has2 .ensures) (c .if3 .taken)))) _ _ m e _ _ _
-
-returns-4 : tie.Need-returns-4
-returns-4 c = λ g m e. passes _ _ _ (not-false _ (c .before .before .before .before .before .if1 .left)) refl (both-set _ _ (told _ _ _ (c .before .before .before .before .has .ensures) (c .before .before .before .if2 .left)) (told _ _ _ (c .before .before .has2 .ensures) (c .before .if3 .left))) (c .go .ensures g m e)
-
 pub jump-register-spec : {M : Type 1} → statement M
 jump-register-spec =
     tie.close
     (tie.spec
-    returns (λ c κs. search needs) returns-2 (λ c κs. search needs) returns-3 (λ c κs. search needs) returns-4)
+    (λ c. λ g m e. stops _ _ _ (unfit (not-true _ (c .if1 .taken))) _ _ m e _ _ _) (λ c κs. search needs)
+    (λ c. λ g m e. stops _ _ _ (reading (first-unset _ _ (told _ _ _ (c .before .has .ensures) (c .if2 .taken)))) _ _ m e _ _ _)
+    (λ c κs. search needs)
+    (λ c. λ g m e. stops _ _ _ (reading (second-unset _ _ (told _ _ _ (c .before .before .before .has .ensures) (c .before .before .if2 .left)) (told _ _ _ (c .before .has2 .ensures) (c .if3 .taken)))) _ _ m e _ _ _)
+    (λ c κs. search needs)
+    (λ c. λ g m e. passes _ _ _ (not-false _ (c .before .before .before .before .before .if1 .left)) refl (both-set _ _ (told _ _ _ (c .before .before .before .before .has .ensures) (c .before .before .before .if2 .left)) (told _ _ _ (c .before .before .has2 .ensures) (c .before .if3 .left))) (c .go .ensures g m e)))

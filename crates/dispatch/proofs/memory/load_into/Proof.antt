@@ -6,26 +6,14 @@ use borrow.Author.Needs.{needs}
 use Rattle.dispatch.proofs.memory.load_into.Statement.{statement}
 use Rattle.dispatch.proofs.memory.load_into.Tie as tie
 
-returns : tie.Need-returns
-returns c = stops _ _ _ (unfit (not-true _ (c .if1 .taken))) _ _ _ (search needs) _ _ _
-
-returns-2 : tie.Need-returns-2
-returns-2 c = stops _ _ _ (writing (le-leb 10 _ (c .if2 .taken))) _ _ _ (search needs) _ _ _
-
-returns-3 : tie.Need-returns-3
-returns-3 c = stops _ _ _ (reading (told _ _ _ (c .before .has .ensures) (c .if3 .taken))) _ _ _ (search needs) _ _ _
-
-returns-4 : tie.Need-returns-4
-unfolding address
-returns-4 c = passes _ _ _ (not-false _ (c .before .before .before .before .before .before .before .before .before .before .before .if1 .left)) (lt-leb 10 _ (c .before .before .before .before .before .before .before .before .before .before .if2 .left)) (told _ _ _ (c .before .before .before .before .before .before .before .before .before .has .ensures) (c .before .before .before .before .before .before .before .before .if3 .left)) (leads-to (load-found _ _ _ _ (rw (← c .before .before .before .before .before .before .before .extend16 .ensures, ← c .before .before .before .before .before .before .wrapping-add-u64 .ensures, ← c .before .before .before .before .before .load .ensures) (c .before .before .before .v .given .1))) (c .keep .ensures _))
-
-returns-5 : tie.Need-returns-5
-unfolding address
-returns-5 c = passes _ _ _ (not-false _ (c .before .before .before .before .before .before .before .before .if1 .left)) (lt-leb 10 _ (c .before .before .before .before .before .before .before .if2 .left)) (told _ _ _ (c .before .before .before .before .before .before .has .ensures) (c .before .before .before .before .before .if3 .left)) (leads-to (load-lost _ _ _ (rw (← c .before .before .before .before .extend16 .ensures, ← c .before .before .before .wrapping-add-u64 .ensures, ← c .before .before .load .ensures) (c .enum-told .given .1))) (leads-fault _ _ _ _ _ (search needs) _))
-
 pub load-into-spec : {M : Type 1} → statement M
+unfolding address
 load-into-spec =
     tie.close
     (tie.spec
-    returns returns-2 (λ c κs. search needs) returns-3 (λ c κs. search needs) (λ c κs. search needs)
-    (λ c κs. search needs) (λ c. search needs) (λ c κs. search needs) (λ c. search needs) returns-4 returns-5)
+    (λ c. stops _ _ _ (unfit (not-true _ (c .if1 .taken))) _ _ _ (search needs) _ _ _)
+    (λ c. stops _ _ _ (writing (le-leb 10 _ (c .if2 .taken))) _ _ _ (search needs) _ _ _) (λ c κs. search needs)
+    (λ c. stops _ _ _ (reading (told _ _ _ (c .before .has .ensures) (c .if3 .taken))) _ _ _ (search needs) _ _ _) (λ c κs. search needs)
+    (λ c κs. search needs) (λ c κs. search needs) (λ c. search needs) (λ c κs. search needs) (λ c. search needs)
+    (λ c. passes _ _ _ (not-false _ (c .before .before .before .before .before .before .before .before .before .before .before .if1 .left)) (lt-leb 10 _ (c .before .before .before .before .before .before .before .before .before .before .if2 .left)) (told _ _ _ (c .before .before .before .before .before .before .before .before .before .has .ensures) (c .before .before .before .before .before .before .before .before .if3 .left)) (leads-to (load-found _ _ _ _ (rw (← c .before .before .before .before .before .before .before .extend16 .ensures, ← c .before .before .before .before .before .before .wrapping-add-u64 .ensures, ← c .before .before .before .before .before .load .ensures) (c .before .before .before .v .given .1))) (c .keep .ensures _)))
+    (λ c. passes _ _ _ (not-false _ (c .before .before .before .before .before .before .before .before .if1 .left)) (lt-leb 10 _ (c .before .before .before .before .before .before .before .if2 .left)) (told _ _ _ (c .before .before .before .before .before .before .has .ensures) (c .before .before .before .before .before .if3 .left)) (leads-to (load-lost _ _ _ (rw (← c .before .before .before .before .extend16 .ensures, ← c .before .before .before .wrapping-add-u64 .ensures, ← c .before .before .load .ensures) (c .enum-told .given .1))) (leads-fault _ _ _ _ _ (search needs) _))))

@@ -6,17 +6,11 @@ use borrow.Author.Needs.{needs}
 use Rattle.dispatch.proofs.memory.store_immediate.Statement.{statement}
 use Rattle.dispatch.proofs.memory.store_immediate.Tie as tie
 
-returns : tie.Need-returns
-returns c = λ rec P g e. stops _ _ _ (unfit (not-true _ (c .if1 .taken))) _ _ _ e _ _ _
-
-returns-2 : tie.Need-returns-2
-returns-2 c = λ rec P g e. stops _ _ _ (reading (told _ _ _ (c .before .has .ensures) (c .if2 .taken))) _ _ _ e _ _ _
-
-returns-3 : tie.Need-returns-3
-returns-3 c = λ rec P g e. passes _ _ _ (not-false _ (c .before .before .before .before .before .before .if1 .left)) refl (told _ _ _ (c .before .before .before .before .before .has .ensures) (c .before .before .before .before .if2 .left)) (c .before .before .store-at .ensures rec P g e)
-
 pub store-immediate-spec : {M : Type 1} → statement M
 store-immediate-spec =
     tie.close
     (tie.spec
-    returns (λ c κs. search needs) returns-2 (λ c κs. search needs) (λ c. search needs) returns-3)
+    (λ c. λ rec P g e. stops _ _ _ (unfit (not-true _ (c .if1 .taken))) _ _ _ e _ _ _) (λ c κs. search needs)
+    (λ c. λ rec P g e. stops _ _ _ (reading (told _ _ _ (c .before .has .ensures) (c .if2 .taken))) _ _ _ e _ _ _) (λ c κs. search needs)
+    (λ c. search needs)
+    (λ c. λ rec P g e. passes _ _ _ (not-false _ (c .before .before .before .before .before .before .if1 .left)) refl (told _ _ _ (c .before .before .before .before .before .has .ensures) (c .before .before .before .before .if2 .left)) (c .before .before .store-at .ensures rec P g e)))

@@ -6,14 +6,8 @@ use borrow.Author.Needs.{needs}
 use Rattle.dispatch.proofs.why.is_unset.Statement.{statement}
 use Rattle.dispatch.proofs.why.is_unset.Tie as tie
 
-returns : tie.Need-returns
-returns c = ap not (c .has .ensures)
-
-returns-2 : tie.Need-returns-2
-returns-2 c = beyond-unset _ _ (c .before .fits .live .fits) (c .if1 .left)
-
 pub is-unset-spec : {M : Type 1} → statement M
 is-unset-spec =
     tie.close
     (tie.spec
-    (λ c κs. search needs) returns returns-2)
+    (λ c κs. search needs) (λ c. ap not (c .has .ensures)) (λ c. beyond-unset _ _ (c .before .fits .live .fits) (c .if1 .left)))

@@ -6,16 +6,10 @@ use borrow.Author.Needs.{needs}
 use Rattle.dispatch.proofs.why.operand_unset.Statement.{statement}
 use Rattle.dispatch.proofs.why.operand_unset.Tie as tie
 
-returns : tie.Need-returns
-unfolding readsOperand unsetIn
-returns c = rw (c .enum-told .given .1)
-
-returns-2 : tie.Need-returns-2
-unfolding readsOperand
-returns-2 c = rw (c .before .before .operand .given .1) (of-one _ _ _ (c .is-unset .ensures))
-
 pub operand-unset-spec : {M : Type 1} → statement M
+unfolding readsOperand unsetIn
 operand-unset-spec =
     tie.close
     (tie.spec
-    (λ c. search needs) (λ c. search needs) (λ c κs. search needs) returns returns-2)
+    (λ c. search needs) (λ c. search needs) (λ c κs. search needs) (λ c. rw (c .enum-told .given .1))
+    (λ c. rw (c .before .before .operand .given .1) (of-one _ _ _ (c .is-unset .ensures))))
