@@ -5,6 +5,7 @@ pub mod Judgement
 pub mod Literal
 pub mod LayoutFree
 pub mod Meaning
+pub mod OperableFacts
 pub mod Paths
 pub mod Programs
 pub mod Refusing

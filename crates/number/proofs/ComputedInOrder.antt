@@ -1,5 +1,5 @@
--- Knowing more never hurts an operation on Numbers: what is computed of narrower operands is narrower, unless it contradicts itself; and it
--- does not where each operand has a number. Where paths join nothing has to be asked.
+-- Knowing more never hurts an operation on Numbers: what is computed of narrower operands is narrower, unless a range on the way is empty.
+-- Where paths join nothing has to be asked.
 use mathlib.Core.Path.{_≡_, refl, sym, subst}
 use Prim.Native.Nat.{ℕ, _%_, _/_, _^_, _≤_, _<_, min, max}
 use native.Mathlib.Nat.{mod-eq-of-lt, lt-of-le-of-lt, le-trans}
@@ -23,9 +23,8 @@ use Rattle.number.specs.Meaning.{Within, In, RangeWithin, BitsWithin, Na
 use Rattle.number.specs.Sharpen.{narrowed, sharpened, joinedRange, joinedNumber}
 use Rattle.number.specs.Computed.{block, modulo, second, computedRange, computed}
 use Rattle.number.proofs.Cases.{by-equal}
-use Rattle.number.proofs.Computing.{computed-sound}
 use Rattle.number.proofs.Known.{low-of-words}
-use Rattle.number.proofs.Operands.{block-of-more, Wide, base, base-is-power, second-is-modulo, modulo-in, modulo-below, second-in, second-below}
+use Rattle.number.proofs.Operands.{block-of-more, Wide, base, base-is-power, second-is-modulo, modulo-in, modulo-below, second-below}
 use Rattle.number.proofs.Outcomes.{Some}
 use Rattle.number.proofs.RangesInOrder.{Shrinks, block-shrinks, ranged-shrinks}
 use Rattle.number.proofs.Results.{wide-at-most-64}
@@ -108,7 +107,7 @@ module _ (w : ℕ) (wide : Wide w) (op : Operation) (a′ b′ a b : Number) (ga
       (calculated-inside w wide op (a′ .bits) (b′ .bits) (a .bits) (b .bits) (oa .form) (ob .form) ga gb (ha .bits) (hb .bits)) _ _
       (computed-range-shrinks .within)
 
--- ---- where no range is empty, so where each operand has a number
+-- ---- where no range is empty
 module _ (w : ℕ) (wide : Wide w) (op : Operation) (a′ b′ a b : Number) (ga′ : Well 64 (a′ .bits)) (gb′ : Well 64 (b′ .bits))
     (ga : Well 64 (a .bits))
     (gb : Well 64 (b .bits)) (ha : Narrower a′ a) (hb : Narrower b′ b) where
@@ -116,18 +115,6 @@ module _ (w : ℕ) (wide : Wide w) (op : Operation) (a′ b′ a b : Number) (ga
   computed-narrower n =
       computed-in-order w wide op a′ b′ a b ga gb ha hb (record { form = ga′; some = n .first; taken = n .first-taken })
       (record { form = gb′; some = n .other; taken = subst Some (second-is-modulo w op b′) (n .other-taken) }) (n .result)
-
-pub none-empty-of-members : (w : ℕ) → Wide w → (op : Operation) (a b : Number) (x y : ℕ) → In a x → In b y → NoneEmpty w op a b
-none-empty-of-members w wide op a b x y i j =
-    let u = modulo-in w a (wide-at-most-64 w wide) x i in
-    let v = second-in w wide op b y j in
-    record {
-      first = some-in a x i;
-      first-taken = le-trans (u .low) (u .high);
-      other = some-in b y j;
-      other-taken = le-trans (v .low) (v .high);
-      result = some-in (computed w op a b) _ (computed-sound w wide op a b x y i j);
-    }
 
 -- ---- where paths join
 module _ (a′ b′ a b : Number) (ga′ : Well 64 (a′ .bits)) (gb′ : Well 64 (b′ .bits)) (ga : Well 64 (a .bits)) (gb : Well 64 (b .bits))

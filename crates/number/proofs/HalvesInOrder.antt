@@ -231,7 +231,7 @@ module _ (d′ s′ d s : Number) (gd : Well 64 (d .bits)) (gs : Well 64 (s .bit
       (told-in-order c way)
 
 module _ (c : Comparison) (way : Bool) (d s : Number) (gd : Well 64 (d .bits)) (gs : Well 64 (s .bits)) where
-  halves-left : Left (lowHalves c d s (told c way d s)) (λ l m. LowOf d l × LowOf s m)
+  pub halves-left : Left (lowHalves c d s (told c way d s)) (λ l m. LowOf d l × LowOf s m)
   halves-left =
       low-halves-leave d s gd gs c (told c way d s)
       (refined-sharper (unsigned c) way (compared c d) (compared c s) (compared-form c d gd) (compared-form c s gs))

@@ -15,6 +15,7 @@ pub mod HalvesVectors
 pub mod Known
 pub mod Laws
 pub mod Limits
+pub mod Operable
 pub mod Operands
 pub mod Orders
 pub mod Outcomes

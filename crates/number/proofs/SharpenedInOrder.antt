@@ -31,19 +31,19 @@ module _ (p′ p : Bits) (g′ : Well 64 p′) (g : Well 64 p) (i : BitsWithin p
       record { low = omega (arith, r .low); high = omega (arith, r .high) }
 
 -- the ends of a pair whose mask has no bit from k on have the bits from k on of all between them
-same-lead-as-ends : (p : Bits) (k y : ℕ) → p .mask < 2 ^ k → p .value ≤ y → y ≤ top p → p .value / 2 ^ k ≡ y / 2 ^ k
+pub same-lead-as-ends : (p : Bits) (k y : ℕ) → p .mask < 2 ^ k → p .value ≤ y → y ≤ top p → p .value / 2 ^ k ≡ y / 2 ^ k
 same-lead-as-ends p k y h l t =
     let e : top p / 2 ^ k ≡ p .value / 2 ^ k = or-shr (p .value) (p .mask) k ∙ ap (bitOr (p .value / 2 ^ k)) (div-eq-of-lt h) ∙ or-zero-r
     (p .value / 2 ^ k) in
     omega (arith, shr-mono k l, shr-mono k t)
 
-no-difference-from : (l h k : ℕ) → l / 2 ^ k ≡ h / 2 ^ k → bitXor l h < 2 ^ k
+pub no-difference-from : (l h k : ℕ) → l / 2 ^ k ≡ h / 2 ^ k → bitXor l h < 2 ^ k
 no-difference-from l h k e =
     let z : bitXor l h / 2 ^ k ≡ 0 = xor-shr l h k ∙ ap (λ (m : ℕ). bitXor m (h / 2 ^ k)) e ∙ xor-self (h / 2 ^ k) in
     let o : bitXor l h / 2 ^ k * 2 ^ k ≡ 0 = ap (λ (m : ℕ). m * 2 ^ k) z ∙ zero-mul (2 ^ k) in
     omega (arith, split (bitXor l h) k, mod-lt (bitXor l h) (pow-pos k))
 
-learnt-mask-below : (p : Bits) (u : Range) (k : ℕ) → bitXor (u .lo) (u .hi) < 2 ^ k → learnt p u .mask < 2 ^ k
+pub learnt-mask-below : (p : Bits) (u : Range) (k : ℕ) → bitXor (u .lo) (u .hi) < 2 ^ k → learnt p u .mask < 2 ^ k
 unfolding learnt stillUnknown
 learnt-mask-below p u k n = lt-of-le-of-lt (and-le-r (p .mask) (upTo (bitXor (u .lo) (u .hi)))) (up-to-below (bitXor (u .lo) (u .hi)) k n)
 
