@@ -1,14 +1,14 @@
 -- Where no result is empty, no range is that an instruction calculates with: every Number that is known can be an operand.
-use mathlib.Core.Path.{_≡_, refl, sym, ap, subst}
+use mathlib.Core.Path.{_≡_, refl, subst}
 use mathlib.Core.Bool.{Bool, true, false, cond, _||_}
-use mathlib.Core.Logic.{_⊎_, inl, inr}
+use mathlib.Core.Logic.{_⊎_, inl}
 use mathlib.Core.List.{List, [], _∷_}
 use mathlib.Core.Option.{Option, none, some}
-use Prim.Native.Nat.{ℕ, zero, suc, _+_, _-_, _*_, _/_, _^_, _≤_, _<_}
+use Prim.Native.Nat.{ℕ, zero, suc, _+_, _-_, _*_, _^_, _≤_, _<_}
 use native.Mathlib.Omega.{arith}
 use lib.Bits.{or-zero-l, or-zero-r}
 use lib.Dec.{eqb, lit<}
-use lib.ListN.{length, getD, set}
+use lib.ListN.{getD, set}
 use lib.Pow.{pow-pos}
 use Rattle.word.specs.declared.Operation.{Operation}
 use Rattle.word.specs.declared.Operation.the-variants.{Add, Sub}
@@ -22,23 +22,22 @@ use Rattle.machine.specs.declared.instruction.Instruction.{Instruction}
 use Rattle.machine.specs.declared.instruction.Instruction.the-variants.{Alu, Neg, Jump, Always, Exit, Load, Store, NoInstruction}
 use Rattle.machine.specs.Machine.{bits, bytes}
 use Rattle.known_bits.specs.Formula.{among}
-use Rattle.known_bits.specs.Pair.{top, exactly}
 use Rattle.number.specs.declared.Number.{Number}
 use Rattle.number.specs.declared.Refined.{Refined}
 use Rattle.number.specs.declared.Refined.the-variants.{Excluded, Possible}
-use Rattle.number.specs.Meaning.{In, NoneEmpty, Left}
+use Rattle.number.specs.Meaning.{NoneEmpty, Left}
 use Rattle.number.specs.Sharpen.{just, exact, everything, loaded, joinedNumber}
 use Rattle.number.specs.Computed.{computed, fits}
 use Rattle.number.proofs.Laws.{exact-in, loaded-in, Operable, joined-operable, member-operable, none-empty-but-the-result, computed-operable, refined-operable, refined32-operable}
 use Rattle.analysis.specs.declared.Reason.the-variants.{WritesR10, ReadsUnset, Outside, LeaksAddress}
 use Rattle.analysis.specs.declared.Region.{Region}
 use Rattle.analysis.specs.declared.Region.the-variants.{Record, Stack}
-use Rattle.analysis.specs.declared.Gone.the-variants.{Never, Mixed}
+use Rattle.analysis.specs.declared.Gone.the-variants.{Never}
 use Rattle.analysis.specs.declared.Value.{Value}
 use Rattle.analysis.specs.declared.Value.the-variants.{Unusable, Plain, Address}
 use Rattle.analysis.specs.declared.Effect.{Effect}
-use Rattle.analysis.specs.declared.Effect.the-variants.{Refuse, Put, Keep, Fork, Goto, Stop}
-use Rattle.analysis.specs.Values.{Facts, valueOf, operandOf, startFacts, sameRegion, joinedGone, joinedValue, joinedValues, joinedFacts}
+use Rattle.analysis.specs.declared.Effect.the-variants.{Refuse, Put, Keep}
+use Rattle.analysis.specs.Values.{Facts, valueOf, operandOf, startFacts, sameRegion, joinedValue, joinedValues, joinedFacts}
 use Rattle.analysis.specs.Effects.{isNever, isMixed, reading, readingBoth, put, Role, copies, converts, adds, subtracts, calculates, role, calculate, sum, difference, arithmetic, limit, load, storeAt, store, told, fork, exit, effect}
 use Rattle.analysis.specs.Form.{instruction}
 use Rattle.analysis.specs.Judged.{having, withOperand, along, Flow, refuses, flows, apply}

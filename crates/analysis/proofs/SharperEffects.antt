@@ -1,14 +1,14 @@
 -- Knowing more never hurts an instruction: of registers of which more is known an instruction refuses nothing that it did not, and what
 -- flows on says no less, unless a range is empty that it calculates with.
-use mathlib.Core.Path.{_≡_, refl, sym, subst}
+use mathlib.Core.Path.{_≡_, refl}
 use mathlib.Core.Bool.{Bool, true, false, cond, _||_}
-use mathlib.Core.Logic.{_⊎_, inl, inr}
+use mathlib.Core.Logic.{_⊎_, inl}
 use mathlib.Core.Option.{Option, none, some}
 use Prim.Native.Nat.{ℕ, _+_, _-_, _*_, _^_, _≤_, _<_}
 use native.Mathlib.Nat.{le-trans}
 use native.Mathlib.Omega.{arith}
 use lib.Pow.{pow-pos, pow-mono}
-use lib.Dec.{eqb, leb}
+use lib.Dec.{eqb}
 use borrow.Author.Tests.{leb-true, le-leb}
 use Rattle.word.specs.declared.Operation.{Operation}
 use Rattle.word.specs.declared.Operation.the-variants.{Add, Sub}
@@ -41,10 +41,10 @@ use Rattle.analysis.specs.declared.Gone.the-variants.{Never, Mixed}
 use Rattle.analysis.specs.declared.Value.{Value}
 use Rattle.analysis.specs.declared.Value.the-variants.{Unusable, Plain, Address}
 use Rattle.analysis.specs.declared.Effect.{Effect}
-use Rattle.analysis.specs.declared.Effect.the-variants.{Refuse, Put, Keep, Fork, Goto, Stop}
+use Rattle.analysis.specs.declared.Effect.the-variants.{Refuse, Put, Keep, Stop}
 use Rattle.analysis.specs.Values.{Facts, valueOf, operandOf}
 use Rattle.analysis.specs.Effects.{isNever, isMixed, reading, readingBoth, put, Role, copies, converts, adds, subtracts, calculates, role, calculate, sum, difference, arithmetic, limit, load, storeAt, store, told, fork, exit, effect}
-use Rattle.analysis.specs.Judged.{having, withOperand, along, Flow, refuses, flows, apply}
+use Rattle.analysis.specs.Judged.{having, along, Flow, refuses, flows, apply}
 use Rattle.analysis.specs.Sharper.{SharperNumber, SharperValue, SharperFacts, SharperComing, SharperThere, SharperFlow, OfNumbers, OfRole, Calculating, SomeResult, TellsMore, PossibleValue, PossibleFacts}
 use Rattle.analysis.proofs.SharperValues.{exact-itself, value-sharper, having-sharper, with-operand-sharper}
 use Rattle.analysis.proofs.Sound.{WordOperand, Words, wide}

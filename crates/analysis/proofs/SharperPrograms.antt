@@ -1,6 +1,6 @@
 -- Knowing more never hurts a program: one of the same length each of whose instructions tells no less than the other's is accepted where
 -- the other is, unless a result that it calculates is empty; so where what is known at each of its indices is possible.
-use mathlib.Core.Path.{_≡_, refl, sym, ap, _∙_, subst}
+use mathlib.Core.Path.{_≡_, refl, sym, subst}
 use mathlib.Core.Bool.{Bool, true, false, cond}
 use mathlib.Core.List.{List}
 use mathlib.Core.Option.{Option, none, some}
@@ -9,7 +9,6 @@ use native.Mathlib.Decide.{ℕ-discrete}
 use native.Mathlib.Omega.{arith}
 use lib.ListN.{length}
 use lib.Dec.{eqb}
-use borrow.Author.Tests.{eqb-true}
 use Rattle.machine.specs.declared.instruction.Instruction.{Instruction}
 use Rattle.number.specs.Meaning.{NoneEmpty}
 use Rattle.analysis.specs.declared.Reason.{Reason}
@@ -21,7 +20,7 @@ use Rattle.analysis.specs.Effects.{effect}
 use Rattle.analysis.specs.Form.{instruction, HasForm}
 use Rattle.analysis.specs.Judged.{Flow, refuses, flows, apply, judged}
 use Rattle.analysis.specs.Promise.{together, flowing, flow, knownFrom, known, Allows}
-use Rattle.analysis.specs.Sharper.{SharperFacts, SharperComing, SharperThere, SharperFlow, Calculating, SomeResult, TellsMore, PossibleFacts}
+use Rattle.analysis.specs.Sharper.{SharperComing, SharperThere, SharperFlow, Calculating, SomeResult, TellsMore, PossibleFacts}
 use Rattle.analysis.proofs.Annotated.{instruction-words}
 use Rattle.analysis.proofs.Literal.{Eleven, ElevenFlow, together-eleven, cond-eleven, apply-eleven, known-eleven}
 use Rattle.analysis.proofs.OperableFacts.{none-empty-unless-a-result-is}

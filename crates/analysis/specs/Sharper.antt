@@ -108,7 +108,8 @@ SomeResult w op a b = computed w op a b .range .lo ≤ computed w op a b .range 
 -- an instruction tells no less than another, with a record of S bytes for one of R, where no range is empty that it calculates with
 abbrev pub TellsMore : ℕ → ℕ → ℕ → Instruction → Instruction → Type 0
 TellsMore R S i new old =
-    (a′ a : Facts) → SharperFacts a′ a → Calculating NoneEmpty a′ new → SharperFlow (apply a′ (effect S i a′ new)) (apply a (effect R i a old))
+    (a′ a : Facts) → SharperFacts a′ a → Calculating NoneEmpty a′ new
+    → SharperFlow (apply a′ (effect S i a′ new)) (apply a (effect R i a old))
 
 -- ---- every Number has a number, as at each index that a run comes to
 abbrev pub PossibleValue : Value → Type 0

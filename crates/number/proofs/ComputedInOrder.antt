@@ -1,28 +1,25 @@
 -- Knowing more never hurts an operation on Numbers: what is computed of narrower operands is narrower, unless a range on the way is empty.
 -- Where paths join nothing has to be asked.
-use mathlib.Core.Path.{_≡_, refl, sym, subst}
-use Prim.Native.Nat.{ℕ, _%_, _/_, _^_, _≤_, _<_, min, max}
+use mathlib.Core.Path.{_≡_, subst}
+use Prim.Native.Nat.{ℕ, _%_, _^_, _≤_, _<_}
 use native.Mathlib.Nat.{mod-eq-of-lt, lt-of-le-of-lt, le-trans}
 use native.Mathlib.Decide.{decLt}
 use native.Mathlib.Omega.{arith}
 use lib.Pow.{pow-pos}
 use Rattle.word.specs.declared.Operation.{Operation}
 use Rattle.word.proofs.Bit.{low-le}
-use Rattle.known_bits.specs.declared.Bits.{Bits}
-use Rattle.known_bits.specs.KnownBits.{Well, Mem}
-use Rattle.known_bits.specs.Formula.{low, calculated}
+use Rattle.known_bits.specs.KnownBits.{Well}
+use Rattle.known_bits.specs.Formula.{low}
 use Rattle.known_bits.specs.Pair.{top}
 use Rattle.known_bits.proofs.Computing.{calculated-computed}
 use Rattle.known_bits.proofs.Inside.{joined-inside}
 use Rattle.known_bits.proofs.InsideComputing.{calculated-inside}
 use Rattle.known_bits.proofs.Laws.{mem-bounds}
 use Rattle.known_bits.proofs.Tight.{mem-least, mem-top, mem-low, mem-high}
-use Rattle.number.specs.declared.Range.{Range}
 use Rattle.number.specs.declared.Number.{Number}
-use Rattle.number.specs.Meaning.{Within, In, RangeWithin, BitsWithin, Narrower, NoneEmpty}
-use Rattle.number.specs.Sharpen.{narrowed, sharpened, joinedRange, joinedNumber}
-use Rattle.number.specs.Computed.{block, modulo, second, computedRange, computed}
-use Rattle.number.proofs.Cases.{by-equal}
+use Rattle.number.specs.Meaning.{In, Narrower, NoneEmpty}
+use Rattle.number.specs.Sharpen.{narrowed, joinedRange, joinedNumber}
+use Rattle.number.specs.Computed.{modulo, second, computedRange, computed}
 use Rattle.number.proofs.Known.{low-of-words}
 use Rattle.number.proofs.Operands.{block-of-more, Wide, base, base-is-power, second-is-modulo, modulo-in, modulo-below, second-below}
 use Rattle.number.proofs.Outcomes.{Some}

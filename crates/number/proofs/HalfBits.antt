@@ -19,7 +19,7 @@ module _ (x y : ℕ) where
   unfolding halves
   halves-upper = omega arith
 
-  pub halves-low : halves x y % 2 ^ 32 ≡ y % 2 ^ 32
+  halves-low : halves x y % 2 ^ 32 ≡ y % 2 ^ 32
   unfolding halves
   halves-low = omega arith
 

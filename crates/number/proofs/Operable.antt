@@ -1,47 +1,45 @@
 -- A Number that is not empty can be an operand: nothing that an operation takes of it is empty. So it is of what is sharpened, joined, or
 -- has another low half, and of a Number that is known without a calculation.
 use mathlib.Core.Path.{_≡_, refl, sym, ap, ap₂, _∙_, subst}
-use mathlib.Core.Bool.{Bool, true, false, cond}
-use mathlib.Core.Logic.{inl, inr}
+use mathlib.Core.Bool.{Bool}
+use mathlib.Core.Logic.{inr}
 use Prim.Native.Nat.{ℕ, _+_, _-_, _*_, _/_, _%_, _^_, _≤_, _<_, min, max}
-use native.Mathlib.Nat.{mod-lt, mod-eq-of-lt, le-trans, le-refl, lt-of-le-of-lt, mul-assoc, mul-add-mod-self-right, mul-add-div-right}
-use native.Mathlib.Decide.{decLt, ℕ-discrete}
+use native.Mathlib.Nat.{mod-lt, le-trans, le-refl, lt-of-le-of-lt, mul-assoc, mul-add-mod-self-right, mul-add-div-right}
+use native.Mathlib.Decide.{ℕ-discrete}
 use native.Mathlib.Omega.{arith}
 use lib.Bits.{bitOr, or-mod, or-shr}
-use lib.Dec.{eqb}
 use borrow.Author.Tests.{eq-eqb, ne-eqb}
-use lib.Pow.{pow-pos, pow-add, shr-mono, shr-shr, split}
-use Rattle.word.specs.Word.{bit}
+use lib.Pow.{pow-pos, pow-add, shr-mono, shr-shr}
 use Rattle.word.specs.declared.Comparison.{Comparison}
 use Rattle.word.specs.declared.Operation.{Operation}
 use Rattle.word.specs.declared.Operation.the-variants.{Add, Sub, Mul, Div, Or, And, Lsh, Rsh, Neg, Mod, Xor, Mov, Arsh}
-use Rattle.word.proofs.Bit.{bit-lt, bit-or, low-le, low-eq}
+use Rattle.word.proofs.Bit.{bit-or, low-le, low-eq}
 use Rattle.known_bits.specs.declared.Bits.{Bits}
 use Rattle.known_bits.specs.KnownBits.{Well}
 use Rattle.known_bits.specs.Pair.{top}
 use Rattle.known_bits.proofs.Inside.{value-grows, top-falls}
 use Rattle.known_bits.proofs.Laws.{mem-bounds}
-use Rattle.known_bits.proofs.Tight.{mem-least, mem-top}
+use Rattle.known_bits.proofs.Tight.{mem-least}
 use Rattle.number.specs.declared.Range.{Range}
 use Rattle.number.specs.declared.Number.{Number}
 use Rattle.number.specs.declared.Refined.{Refined}
 use Rattle.number.specs.declared.Refined.the-variants.{Excluded, Possible}
-use Rattle.number.specs.Meaning.{Within, In, RangeWithin, Narrower, Left, NoneEmpty}
+use Rattle.number.specs.Meaning.{In, RangeWithin, Narrower, Left, NoneEmpty}
 use Rattle.number.specs.Sharpen.{narrowed, learnt, sharpened, joinedRange, joinedNumber}
-use Rattle.number.specs.Computed.{block, modulo, second, computed}
+use Rattle.number.specs.Computed.{block, modulo, computed}
 use Rattle.number.specs.Compare.{bounds, common, refined}
 use Rattle.number.specs.Halves.{unsigned, signed, lowHalf, movedHalf, compared, movedBack, halves, halvesOfBits, halvesOfRange, withLow, whole, lowHalves, refined32}
 use Rattle.number.proofs.Cases.{by-test, by-equal, by-less}
-use Rattle.number.proofs.ComputedInOrder.{Operand, word-operand, operand-of-member, modulo-shrinks}
+use Rattle.number.proofs.ComputedInOrder.{word-operand, operand-of-member, modulo-shrinks}
 use Rattle.number.proofs.Compare.{refined-form}
 use Rattle.number.proofs.Computing.{computed-form, computed-range-within}
-use Rattle.number.proofs.HalfBits.{halves-upper, halves-low, halves-low-bit, halves-of-bits-form}
+use Rattle.number.proofs.HalfBits.{halves-upper, halves-low-bit}
 use Rattle.number.proofs.Halves.{LowOf, with-low-form, halves-of-range-within, told, refined32-is}
 use Rattle.number.proofs.HalvesInOrder.{halves-left}
 use Rattle.number.proofs.Known.{joined-form, joined-wider-left, joined-wider-right}
 use Rattle.number.proofs.Operands.{block-keeps, Wide, at-either-width, base, rest-in-order, second-is-modulo}
 use Rattle.number.proofs.Outcomes.{Some, some-of-within, left-map, left-both, settled-leaves}
-use Rattle.number.proofs.RangesInOrder.{Shrinks, block-shrinks}
+use Rattle.number.proofs.RangesInOrder.{block-shrinks}
 use Rattle.number.proofs.SharpenedInOrder.{narrowed-in-order, same-lead-as-ends, no-difference-from, learnt-mask-below}
 use Rattle.number.proofs.Sharpening.{narrowed-above-least, narrowed-below-top}
 use Rattle.number.proofs.Shorter.{block-of-small, mov-computed-range}
@@ -62,7 +60,8 @@ low-of-ends p j = low-le j (p .value) (top p) (λ k l. omega (arith, bit-or k (p
 -- modulo m: the range and the pair, each in order and neither beyond the other
 taken-is-some : (j : ℕ) (n : Number)
     → (n .range .lo / 2 ^ j ≡ n .range .hi / 2 ^ j
-    → (n .range .lo % 2 ^ j ≤ n .range .hi % 2 ^ j) × (n .bits .value % 2 ^ j ≤ n .range .hi % 2 ^ j) × (n .range .lo % 2 ^ j ≤ top (n .bits) % 2 ^ j))
+    → (n .range .lo % 2 ^ j ≤ n .range .hi % 2 ^ j) × (n .bits .value % 2 ^ j ≤ n .range .hi % 2 ^ j)
+    × (n .range .lo % 2 ^ j ≤ top (n .bits) % 2 ^ j))
     → Some (modulo (2 ^ j) n)
 unfolding modulo block
 taken-is-some j n f =

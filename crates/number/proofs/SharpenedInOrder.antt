@@ -1,7 +1,7 @@
 -- Knowing more never hurts where a pair and a range sharpen each other: of less wide halves less is left, unless they contradict each
 -- other, so that the range that is left is empty.
-use mathlib.Core.Path.{_≡_, sym, ap, _∙_, subst}
-use Prim.Native.Nat.{ℕ, _*_, _/_, _%_, _^_, _≤_, _<_, min, max}
+use mathlib.Core.Path.{_≡_, sym, ap, _∙_}
+use Prim.Native.Nat.{ℕ, _*_, _/_, _%_, _^_, _≤_, _<_}
 use native.Mathlib.Nat.{mod-lt, zero-mul, div-eq-of-lt, lt-of-le-of-lt, le-trans}
 use native.Mathlib.Omega.{arith}
 use lib.Pow.{pow-pos, shr-mono, split}
@@ -9,14 +9,12 @@ use lib.Bits.{bitOr, bitXor, and-le-r, xor-lt, xor-shr, xor-self, or-shr, or-zer
 use Rattle.word.specs.Word.{bit}
 use Rattle.word.proofs.Bit.{bit-lt, bit-high}
 use Rattle.known_bits.specs.declared.Bits.{Bits}
-use Rattle.known_bits.specs.KnownBits.{Well, Mem}
+use Rattle.known_bits.specs.KnownBits.{Well}
 use Rattle.known_bits.specs.Formula.{upTo}
 use Rattle.known_bits.specs.Pair.{top}
 use Rattle.known_bits.proofs.Inside.{value-grows, top-falls}
-use Rattle.known_bits.proofs.Laws.{mem-bounds}
-use Rattle.known_bits.proofs.Tight.{digit, mem-least, mem-top, apart-bit}
+use Rattle.known_bits.proofs.Tight.{digit, mem-top, apart-bit}
 use Rattle.number.specs.declared.Range.{Range}
-use Rattle.number.specs.declared.Number.{Number}
 use Rattle.number.specs.Meaning.{Within, RangeWithin, BitsWithin, Narrower}
 use Rattle.number.specs.Sharpen.{narrowed, stillUnknown, learnt, sharpened}
 use Rattle.number.proofs.Outcomes.{Some}

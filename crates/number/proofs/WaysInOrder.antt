@@ -1,22 +1,21 @@
 -- Knowing more never hurts a comparison: a way out that was excluded stays excluded, and of narrower numbers narrower ones are left. Only
 -- the form of the pairs is asked, since a way on which a range is empty is excluded.
-use mathlib.Core.Path.{_≡_, refl, sym, ap, _∙_, subst}
+use mathlib.Core.Path.{_≡_, refl}
 use mathlib.Core.Bool.{Bool, true, false, cond, _&&_}
 use mathlib.Core.Logic.{inl}
-use Prim.Native.Nat.{ℕ, _+_, _-_, _^_, _≤_, _<_, min, max}
+use Prim.Native.Nat.{ℕ, _+_, _^_, _<_}
 use native.Mathlib.Decide.{ℕ-discrete}
 use native.Mathlib.Omega.{arith}
-use lib.Bits.{bitAnd, and-zero-l}
+use lib.Bits.{bitAnd}
 use lib.Dec.{eqb, leb, ltb, lit<}
-use borrow.Author.Tests.{ltb-false, leb-true, le-leb, le-ltb, eqb-true, eqb-false, ne-eqb}
-use Rattle.word.specs.Word.{bit}
+use borrow.Author.Tests.{leb-true, le-leb, le-ltb, ne-eqb}
 use Rattle.word.specs.declared.Operation.the-variants.{Add}
 use Rattle.word.specs.declared.Comparison.{Comparison}
 use Rattle.known_bits.specs.declared.Bits.{Bits}
 use Rattle.known_bits.specs.declared.Learnt.{Learnt}
 use Rattle.known_bits.specs.declared.Learnt.the-variants.{Pair, Nothing}
 use Rattle.known_bits.specs.KnownBits.{Well, Both, Apart}
-use Rattle.known_bits.specs.Formula.{cleared, met}
+use Rattle.known_bits.specs.Formula.{met}
 use Rattle.known_bits.specs.Learn.{Learns}
 use Rattle.known_bits.specs.Pair.{top}
 use Rattle.known_bits.proofs.Inside.{LearntInside, met-inside, cleared-inside}
@@ -28,9 +27,8 @@ use Rattle.number.specs.declared.Refined.{Refined}
 use Rattle.number.specs.declared.Refined.the-variants.{Excluded, Possible}
 use Rattle.number.specs.Meaning.{RangeWithin, Narrower, Left, LeavesNoMore}
 use Rattle.number.specs.Sharpen.{narrowed, sharpened, exact}
-use Rattle.number.specs.Computed.{computed}
 use Rattle.number.specs.Compare.{settled, bounds, orderedIn, ordered, exchanged, common, equalBy, equal, empty, without, apartFrom, unequal, resharpened, disjointBy, disjointOf, disjoint, overlappingOf, overlapping, turned, firsts, turnedBack, signedOrdered, refined}
-use Rattle.number.proofs.Cases.{by-test, by-less, by-equal}
+use Rattle.number.proofs.Cases.{by-less, by-equal}
 use Rattle.number.proofs.ComputedInOrder.{word-operand, operand-of-member, computed-in-order}
 use Rattle.number.proofs.Computing.{computed-form}
 use Rattle.number.proofs.Equality.{ApartLeft, apart-leaves, equal-leaves}
@@ -41,7 +39,7 @@ use Rattle.number.proofs.Outcomes.{Some, some-of-within, Sharper, left-
 use Rattle.number.proofs.Relations.{Relation, Below, SignedBelow, Exchanged, Same, Different, Disjoint, Overlapping, told, relation, refined-is-told}
 use Rattle.number.proofs.SharedBits.{resharpened-form, none-shared-by-tops, disjoint-leaves, narrower-than-itself, overlapping-leaves}
 use Rattle.number.proofs.SharpenedInOrder.{narrowed-in-order, sharpened-in-order}
-use Rattle.number.proofs.Sharpening.{sharpened-form, sharpened-range-within}
+use Rattle.number.proofs.Sharpening.{sharpened-range-within}
 use Rattle.number.proofs.Signs.{SignedLeft, signedOrdered-leaves}
 
 -- ---- through the steps by which a `Refined` is made
@@ -303,7 +301,7 @@ module _ (Q : Number → Type 0) (q : (p : Bits) (t : Range) → Some (sharpened
   equalBy-leaves-sharpened Nothing t = tt
   equalBy-leaves-sharpened (Pair p) t = settled-leaves-sharpened p p t t
 
-  pub equal-leaves-sharpened : (d s : Number) → Left (equal d s) Each
+  equal-leaves-sharpened : (d s : Number) → Left (equal d s) Each
   unfolding equal
   equal-leaves-sharpened d s = equalBy-leaves-sharpened (met (d .bits) (s .bits)) (common (d .range) (s .range))
 
