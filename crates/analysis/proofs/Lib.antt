@@ -7,6 +7,7 @@ pub mod LayoutFree
 pub mod Literal
 pub mod LongerRecord
 pub mod Meaning
+pub mod OperableFacts
 pub mod Paths
 pub mod Programs
 pub mod Promised

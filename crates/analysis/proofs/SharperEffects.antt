@@ -1,13 +1,14 @@
 -- Knowing more never hurts an instruction: of registers of which more is known an instruction refuses nothing that it did not, and what
 -- flows on says no less, unless a range is empty that it calculates with.
-use mathlib.Core.Path.{_≡_, refl, sym, subst}
+use mathlib.Core.Path.{_≡_, refl}
 use mathlib.Core.Bool.{Bool, true, false, cond, _||_}
-use mathlib.Core.Logic.{_⊎_, inl, inr}
+use mathlib.Core.Logic.{_⊎_, inl}
 use mathlib.Core.Option.{Option, none, some}
 use Prim.Native.Nat.{ℕ, _+_, _-_, _*_, _^_, _≤_, _<_}
+use native.Mathlib.Nat.{le-trans}
 use native.Mathlib.Omega.{arith}
 use lib.Pow.{pow-pos, pow-mono}
-use lib.Dec.{eqb, leb}
+use lib.Dec.{eqb}
 use borrow.Author.Tests.{leb-true, le-leb}
 use Rattle.word.specs.declared.Operation.{Operation}
 use Rattle.word.specs.declared.Operation.the-variants.{Add, Sub}
@@ -31,7 +32,7 @@ use Rattle.number.specs.declared.Refined.the-variants.{Excluded, Possible}
 use Rattle.number.specs.Meaning.{In, Narrower, NoneEmpty, Left, LeavesNoMore}
 use Rattle.number.specs.Sharpen.{exact, loaded, everything}
 use Rattle.number.specs.Computed.{computed, fits}
-use Rattle.number.proofs.Laws.{exact-in, loaded-in, computed-form, computed-narrower, none-empty-of-members, refined-form, refined32-form, refined-in-order, refined32-in-order}
+use Rattle.number.proofs.Laws.{exact-in, loaded-in, computed-form, computed-sound, computed-narrower, refined-form, refined32-form, refined-in-order, refined32-in-order}
 use Rattle.analysis.specs.declared.Reason.{Reason}
 use Rattle.analysis.specs.declared.Reason.the-variants.{WritesR10, ReadsUnset, Outside, LeaksAddress}
 use Rattle.analysis.specs.declared.Region.{Region}
@@ -40,11 +41,11 @@ use Rattle.analysis.specs.declared.Gone.the-variants.{Never, Mixed}
 use Rattle.analysis.specs.declared.Value.{Value}
 use Rattle.analysis.specs.declared.Value.the-variants.{Unusable, Plain, Address}
 use Rattle.analysis.specs.declared.Effect.{Effect}
-use Rattle.analysis.specs.declared.Effect.the-variants.{Refuse, Put, Keep, Fork, Goto, Stop}
+use Rattle.analysis.specs.declared.Effect.the-variants.{Refuse, Put, Keep, Stop}
 use Rattle.analysis.specs.Values.{Facts, valueOf, operandOf}
 use Rattle.analysis.specs.Effects.{isNever, isMixed, reading, readingBoth, put, Role, copies, converts, adds, subtracts, calculates, role, calculate, sum, difference, arithmetic, limit, load, storeAt, store, told, fork, exit, effect}
-use Rattle.analysis.specs.Judged.{having, withOperand, along, Flow, refuses, flows, apply}
-use Rattle.analysis.specs.Sharper.{SharperNumber, SharperValue, SharperFacts, SharperComing, SharperThere, SharperFlow, NoneEmptyOf, CoherentAlu, Coherent, TellsMore, PossibleValue, PossibleFacts}
+use Rattle.analysis.specs.Judged.{having, along, Flow, refuses, flows, apply}
+use Rattle.analysis.specs.Sharper.{SharperNumber, SharperValue, SharperFacts, SharperComing, SharperThere, SharperFlow, OfNumbers, OfRole, Calculating, SomeResult, TellsMore, PossibleValue, PossibleFacts}
 use Rattle.analysis.proofs.Literal.{along-possible, along-excluded, limit-grows}
 use Rattle.analysis.proofs.SharperValues.{exact-itself, value-sharper, having-sharper, with-operand-sharper}
 use Rattle.analysis.proofs.Sound.{WordOperand, Words, wide}
@@ -152,7 +153,7 @@ module _ (a′ a : Facts) (h : SharperFacts a′ a) where
 
   -- ---- arithmetic
   calculate-sharper : (w : ℕ) → (w ≡ 64) ⊎ (w ≡ 32) → (op : Operation) (d : ℕ) (x′ y′ x y : Value) → SharperValue x′ x → SharperValue y′ y
-      → NoneEmptyOf w op x′ y′
+      → OfNumbers NoneEmpty w op x′ y′
       → SharperFlow (apply a′ (calculate w op d x′ y′)) (apply a (calculate w op d x y))
   unfolding calculate apply
   calculate-sharper w ww op d x′ y′ (Unusable g) y s t i = says-nothing (apply a′ (calculate w op d x′ y′)) LeaksAddress
@@ -160,12 +161,12 @@ module _ (a′ a : Facts) (h : SharperFacts a′ a) where
   calculate-sharper w ww op d x′ y′ (Plain m) (Unusable g) s t i = says-nothing (apply a′ (calculate w op d x′ y′)) LeaksAddress
   calculate-sharper w ww op d x′ y′ (Plain m) (Address q n) s t i = says-nothing (apply a′ (calculate w op d x′ y′)) LeaksAddress
   calculate-sharper w ww op d x′ y′ (Plain m) (Plain n) s t i =
-      let P : Value → Value → Type 0 = λ u v. NoneEmptyOf w op u v → SharperFlow (apply a′ (calculate w op d u v))
+      let P : Value → Value → Type 0 = λ u v. OfNumbers NoneEmpty w op u v → SharperFlow (apply a′ (calculate w op d u v))
       (apply a (calculate w op d (Plain m) (Plain n))) in
       of-number (λ u. P u y′) m
       (λ m′ k. of-number (P (Plain m′)) n (λ n′ l e. put-sharper d _ _ (computed-sharper w ww op m′ n′ m n k l e)) y′ t) x′ s i
 
-  sum-sharper : (d : ℕ) (x′ y′ x y : Value) → SharperValue x′ x → SharperValue y′ y → NoneEmptyOf 64 Add x′ y′
+  sum-sharper : (d : ℕ) (x′ y′ x y : Value) → SharperValue x′ x → SharperValue y′ y → OfNumbers NoneEmpty 64 Add x′ y′
       → SharperFlow (apply a′ (sum d x′ y′)) (apply a (sum d x y))
   unfolding sum apply
   sum-sharper d x′ y′ (Unusable g) y s t i = says-nothing (apply a′ (sum d x′ y′)) LeaksAddress
@@ -173,24 +174,24 @@ module _ (a′ a : Facts) (h : SharperFacts a′ a) where
   sum-sharper d x′ y′ (Address p m) (Unusable g) s t i = says-nothing (apply a′ (sum d x′ y′)) LeaksAddress
   sum-sharper d x′ y′ (Address p m) (Address q n) s t i = says-nothing (apply a′ (sum d x′ y′)) LeaksAddress
   sum-sharper d x′ y′ (Plain m) (Plain n) s t i =
-      let P : Value → Value → Type 0 = λ u v. NoneEmptyOf 64 Add u v → SharperFlow (apply a′ (sum d u v))
+      let P : Value → Value → Type 0 = λ u v. OfNumbers NoneEmpty 64 Add u v → SharperFlow (apply a′ (sum d u v))
       (apply a (sum d (Plain m) (Plain n))) in
       of-number (λ u. P u y′) m
       (λ m′ k. of-number (P (Plain m′)) n (λ n′ l e. put-sharper d _ _ (computed-sharper 64 (inl refl) Add m′ n′ m n k l e)) y′ t) x′ s i
   sum-sharper d x′ y′ (Plain m) (Address q n) s t i =
-      let P : Value → Value → Type 0 = λ u v. NoneEmptyOf 64 Add u v → SharperFlow (apply a′ (sum d u v))
+      let P : Value → Value → Type 0 = λ u v. OfNumbers NoneEmpty 64 Add u v → SharperFlow (apply a′ (sum d u v))
       (apply a (sum d (Plain m) (Address q n))) in
       of-number (λ u. P u y′) m
       (λ m′ k. of-address (P (Plain m′)) q n (λ n′ l e. put-sharper d _ _
       (refl, computed-sharper 64 (inl refl) Add n′ m′ n m l k e)) y′ t) x′ s i
   sum-sharper d x′ y′ (Address p m) (Plain n) s t i =
-      let P : Value → Value → Type 0 = λ u v. NoneEmptyOf 64 Add u v → SharperFlow (apply a′ (sum d u v))
+      let P : Value → Value → Type 0 = λ u v. OfNumbers NoneEmpty 64 Add u v → SharperFlow (apply a′ (sum d u v))
       (apply a (sum d (Address p m) (Plain n))) in
       of-address (λ u. P u y′) p m
       (λ m′ k. of-number (P (Address p m′)) n (λ n′ l e. put-sharper d _ _
       (refl, computed-sharper 64 (inl refl) Add m′ n′ m n k l e)) y′ t) x′ s i
 
-  difference-sharper : (d : ℕ) (x′ y′ x y : Value) → SharperValue x′ x → SharperValue y′ y → NoneEmptyOf 64 Sub x′ y′
+  difference-sharper : (d : ℕ) (x′ y′ x y : Value) → SharperValue x′ x → SharperValue y′ y → OfNumbers NoneEmpty 64 Sub x′ y′
       → SharperFlow (apply a′ (difference d x′ y′)) (apply a (difference d x y))
   unfolding difference apply
   difference-sharper d x′ y′ (Unusable g) y s t i = says-nothing (apply a′ (difference d x′ y′)) LeaksAddress
@@ -199,12 +200,12 @@ module _ (a′ a : Facts) (h : SharperFacts a′ a) where
   difference-sharper d x′ y′ (Address p m) (Unusable g) s t i = says-nothing (apply a′ (difference d x′ y′)) LeaksAddress
   difference-sharper d x′ y′ (Address p m) (Address q n) s t i = says-nothing (apply a′ (difference d x′ y′)) LeaksAddress
   difference-sharper d x′ y′ (Plain m) (Plain n) s t i =
-      let P : Value → Value → Type 0 = λ u v. NoneEmptyOf 64 Sub u v → SharperFlow (apply a′ (difference d u v))
+      let P : Value → Value → Type 0 = λ u v. OfNumbers NoneEmpty 64 Sub u v → SharperFlow (apply a′ (difference d u v))
       (apply a (difference d (Plain m) (Plain n))) in
       of-number (λ u. P u y′) m
       (λ m′ k. of-number (P (Plain m′)) n (λ n′ l e. put-sharper d _ _ (computed-sharper 64 (inl refl) Sub m′ n′ m n k l e)) y′ t) x′ s i
   difference-sharper d x′ y′ (Address p m) (Plain n) s t i =
-      let P : Value → Value → Type 0 = λ u v. NoneEmptyOf 64 Sub u v → SharperFlow (apply a′ (difference d u v))
+      let P : Value → Value → Type 0 = λ u v. OfNumbers NoneEmpty 64 Sub u v → SharperFlow (apply a′ (difference d u v))
       (apply a (difference d (Address p m) (Plain n))) in
       of-address (λ u. P u y′) p m
       (λ m′ k. of-number (P (Address p m′)) n (λ n′ l e. put-sharper d _ _
@@ -212,7 +213,7 @@ module _ (a′ a : Facts) (h : SharperFacts a′ a) where
 
   arithmetic-sharper : (e : Role) (w : ℕ) → (w ≡ 64) ⊎ (w ≡ 32) → (op : Operation) (d : ℕ) (x′ y′ x y : Value) → SharperValue x′ x
       → SharperValue y′ y
-      → CoherentAlu e w op x′ y′ → SharperFlow (apply a′ (arithmetic e w op d x′ y′)) (apply a (arithmetic e w op d x y))
+      → OfRole NoneEmpty e w op x′ y′ → SharperFlow (apply a′ (arithmetic e w op d x′ y′)) (apply a (arithmetic e w op d x y))
   unfolding arithmetic
   arithmetic-sharper copies w ww op d x′ y′ x y s t i = reading-sharper y′ y _ _ t (put-sharper d y′ y t)
   arithmetic-sharper converts w ww op d x′ y′ x y s t i = reading-sharper y′ y _ _ t (calculate-sharper w ww op d y′ y′ y y t t i)
@@ -302,29 +303,29 @@ module _ (a′ a : Facts) (h : SharperFacts a′ a) (R S : ℕ) (longer : R ≤ 
       go false q = says-nothing a′ a h (apply a′ (cond (fits n′ size′ m′) e′ (Refuse Outside))) Outside
 
   load-sharper : (size′ size d : ℕ) → size′ ≤ size → size ≤ 8 → (x′ x : Value) → SharperValue x′ x
-      → NoneEmptyOf 64 Add x′ (Plain (exact off))
+      → OfNumbers NoneEmpty 64 Add x′ (Plain (exact off))
       → SharperFlow (apply a′ (load S size′ d off x′)) (apply a (load R size d off x))
   unfolding load apply
   load-sharper size′ size d l g x′ (Unusable r) s i = says-nothing a′ a h (apply a′ (load S size′ d off x′)) Outside
   load-sharper size′ size d l g x′ (Plain m) s i = says-nothing a′ a h (apply a′ (load S size′ d off x′)) Outside
   load-sharper size′ size d l g x′ (Address p m) s i =
-      of-address (λ u. NoneEmptyOf 64 Add u (Plain (exact off)) → SharperFlow (apply a′ (load S size′ d off u))
+      of-address (λ u. OfNumbers NoneEmpty 64 Add u (Plain (exact off)) → SharperFlow (apply a′ (load S size′ d off u))
       (apply a (load R size d off (Address p m)))) p m
       (λ m′ k e. if-it-fits _ _ size′ size (limit S p) (limit R p) _ _ (moved-sharper m′ m k e .narrower) l (limit-grows R S longer p)
       (put-sharper a′ a h d (Plain (loaded size′)) (Plain (loaded size)) (loaded-sharper size′ size l g))) x′ s i
 
-  storeAt-sharper : (size : ℕ) (x′ x : Value) → SharperValue x′ x → NoneEmptyOf 64 Add x′ (Plain (exact off))
+  storeAt-sharper : (size : ℕ) (x′ x : Value) → SharperValue x′ x → OfNumbers NoneEmpty 64 Add x′ (Plain (exact off))
       → SharperFlow (apply a′ (storeAt size off x′)) (apply a (storeAt size off x))
   unfolding storeAt apply
   storeAt-sharper size x′ (Unusable r) s i = says-nothing a′ a h (apply a′ (storeAt size off x′)) Outside
   storeAt-sharper size x′ (Plain m) s i = says-nothing a′ a h (apply a′ (storeAt size off x′)) Outside
   storeAt-sharper size x′ (Address Record m) s i = says-nothing a′ a h (apply a′ (storeAt size off x′)) Outside
   storeAt-sharper size x′ (Address Stack m) s i =
-      of-address (λ u. NoneEmptyOf 64 Add u (Plain (exact off)) → SharperFlow (apply a′ (storeAt size off u))
+      of-address (λ u. OfNumbers NoneEmpty 64 Add u (Plain (exact off)) → SharperFlow (apply a′ (storeAt size off u))
       (apply a (storeAt size off (Address Stack m)))) Stack m
       (λ m′ k e. if-it-fits _ _ size size 512 512 Keep Keep (moved-sharper m′ m k e .narrower) (omega arith) (omega arith) (h, tt)) x′ s i
 
-  store-sharper : (size : ℕ) (x′ y′ x y : Value) → SharperValue x′ x → SharperValue y′ y → NoneEmptyOf 64 Add x′ (Plain (exact off))
+  store-sharper : (size : ℕ) (x′ y′ x y : Value) → SharperValue x′ x → SharperValue y′ y → OfNumbers NoneEmpty 64 Add x′ (Plain (exact off))
       → SharperFlow (apply a′ (store size off x′ y′)) (apply a (store size off x y))
   unfolding store apply
   store-sharper size x′ y′ x (Unusable g) s t i = says-nothing a′ a h (apply a′ (store size off x′ y′)) LeaksAddress
@@ -339,7 +340,7 @@ unfolding operandOf
 operand-sharper a′ a h (Immediate n) w = exact-itself n w
 operand-sharper a′ a h (Register r) w = value-sharper a′ a h r
 
-size-at-most-8 : (z : Size) → bytes z ≤ 8
+pub size-at-most-8 : (z : Size) → bytes z ≤ 8
 unfolding bytes
 size-at-most-8 One = omega arith
 size-at-most-8 Two = omega arith
@@ -375,38 +376,41 @@ same-tells-more R S i l (Store z d off o) ok a′ a h p =
     reading-both-sharper a′ a h _ _ _ _ _ _ s t (store-sharper a′ a h R S l off (ok .0) (bytes z) _ _ _ _ s t p)
 same-tells-more R S i l NoInstruction ok a′ a h p = tt
 
--- ---- where every Number has a number no range is empty
-none-empty : (w : ℕ) → (w ≡ 64) ⊎ (w ≡ 32) → (op : Operation) (x y : Value) → PossibleValue x → PossibleValue y → NoneEmptyOf w op x y
-none-empty w ww op (Unusable g) y i j = tt
-none-empty w ww op (Plain a) (Unusable h) i j = tt
-none-empty w ww op (Plain a) (Plain b) i j = none-empty-of-members w ww op a b (i .0) (j .0) (i .1) (j .1)
-none-empty w ww op (Plain a) (Address q b) i j = none-empty-of-members w ww op b a (j .0) (i .0) (j .1) (i .1)
-none-empty w ww op (Address p a) (Unusable h) i j = tt
-none-empty w ww op (Address p a) (Plain b) i j = none-empty-of-members w ww op a b (i .0) (j .0) (i .1) (j .1)
-none-empty w ww op (Address p a) (Address q b) i j = tt
+-- ---- where every Number has a number every result has one
+some-result : (w : ℕ) → (w ≡ 64) ⊎ (w ≡ 32) → (op : Operation) (a b : Number) → (x : ℕ) × In a x → (y : ℕ) × In b y → SomeResult w op a b
+some-result w ww op a b i j = let r = computed-sound w ww op a b (i .0) (j .0) (i .1) (j .1) .range in le-trans (r .low) (r .high)
 
-possible-role : (e : Role) (w : ℕ) → (w ≡ 64) ⊎ (w ≡ 32) → (op : Operation) (x y : Value) → PossibleValue x → PossibleValue y
-    → CoherentAlu e w op x y
-possible-role copies w ww op x y i j = tt
-possible-role converts w ww op x y i j = none-empty w ww op y y j j
-possible-role adds w ww op x y i j = none-empty 64 (inl refl) Add x y i j
-possible-role subtracts w ww op x y i j = none-empty 64 (inl refl) Sub x y i j
-possible-role calculates w ww op x y i j = none-empty w ww op x y i j
+results : (w : ℕ) → (w ≡ 64) ⊎ (w ≡ 32) → (op : Operation) (x y : Value) → PossibleValue x → PossibleValue y → OfNumbers SomeResult w op x y
+results w ww op (Unusable g) y i j = tt
+results w ww op (Plain a) (Unusable h) i j = tt
+results w ww op (Plain a) (Plain b) i j = some-result w ww op a b i j
+results w ww op (Plain a) (Address q b) i j = some-result w ww op b a j i
+results w ww op (Address p a) (Unusable h) i j = tt
+results w ww op (Address p a) (Plain b) i j = some-result w ww op a b i j
+results w ww op (Address p a) (Address q b) i j = tt
+
+results-by-role : (e : Role) (w : ℕ) → (w ≡ 64) ⊎ (w ≡ 32) → (op : Operation) (x y : Value) → PossibleValue x → PossibleValue y
+    → OfRole SomeResult e w op x y
+results-by-role copies w ww op x y i j = tt
+results-by-role converts w ww op x y i j = results w ww op y y j j
+results-by-role adds w ww op x y i j = results 64 (inl refl) Add x y i j
+results-by-role subtracts w ww op x y i j = results 64 (inl refl) Sub x y i j
+results-by-role calculates w ww op x y i j = results w ww op x y i j
 
 possible-operand : (a : Facts) → PossibleFacts a → (o : Operand) → WordOperand o → PossibleValue (operandOf a o)
 unfolding operandOf
 possible-operand a p (Immediate n) w = (n, exact-in n w)
 possible-operand a p (Register r) w = p .each r
 
-pub possible-is-coherent : (a : Facts) (ins : Instruction) → Words ins → PossibleFacts a → Coherent a ins
-possible-is-coherent a (Alu w op d o) ok p =
-    possible-role (role w op) (bits w) (wide w) op (valueOf a d) (operandOf a o) (p .each d) (possible-operand a p o ok)
-possible-is-coherent a (Neg w d) ok p = none-empty (bits w) (wide w) operation.Neg (valueOf a d) (valueOf a d) (p .each d) (p .each d)
-possible-is-coherent a (Jump w c d o off) ok p = tt
-possible-is-coherent a (Always off) ok p = tt
-possible-is-coherent a Exit ok p = tt
-possible-is-coherent a (Load z d r off) ok p =
-    none-empty 64 (inl refl) Add (valueOf a r) (Plain (exact off)) (p .each r) (off, exact-in off ok)
-possible-is-coherent a (Store z d off o) ok p =
-    none-empty 64 (inl refl) Add (valueOf a d) (Plain (exact off)) (p .each d) (off, exact-in off (ok .0))
-possible-is-coherent a NoInstruction ok p = tt
+pub possible-has-results : (a : Facts) (ins : Instruction) → Words ins → PossibleFacts a → Calculating SomeResult a ins
+possible-has-results a (Alu w op d o) ok p =
+    results-by-role (role w op) (bits w) (wide w) op (valueOf a d) (operandOf a o) (p .each d) (possible-operand a p o ok)
+possible-has-results a (Neg w d) ok p = results (bits w) (wide w) operation.Neg (valueOf a d) (valueOf a d) (p .each d) (p .each d)
+possible-has-results a (Jump w c d o off) ok p = tt
+possible-has-results a (Always off) ok p = tt
+possible-has-results a Exit ok p = tt
+possible-has-results a (Load z d r off) ok p =
+    results 64 (inl refl) Add (valueOf a r) (Plain (exact off)) (p .each r) (off, exact-in off ok)
+possible-has-results a (Store z d off o) ok p =
+    results 64 (inl refl) Add (valueOf a d) (Plain (exact off)) (p .each d) (off, exact-in off (ok .0))
+possible-has-results a NoInstruction ok p = tt

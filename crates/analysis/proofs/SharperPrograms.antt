@@ -1,6 +1,6 @@
 -- Knowing more never hurts a program: one of the same length each of whose instructions tells no less than the other's is accepted where
--- the other is, as long as no range is empty that it calculates with; so where what is known at each of its indices is possible.
-use mathlib.Core.Path.{_≡_, refl, sym, ap, _∙_, subst}
+-- the other is, unless a result that it calculates is empty; so where what is known at each of its indices is possible.
+use mathlib.Core.Path.{_≡_, refl, sym, subst}
 use mathlib.Core.Bool.{Bool, true, false, cond}
 use mathlib.Core.List.{List}
 use mathlib.Core.Option.{Option, none, some}
@@ -9,8 +9,8 @@ use native.Mathlib.Decide.{ℕ-discrete}
 use native.Mathlib.Omega.{arith}
 use lib.ListN.{length}
 use lib.Dec.{eqb}
-use borrow.Author.Tests.{eqb-true}
 use Rattle.machine.specs.declared.instruction.Instruction.{Instruction}
+use Rattle.number.specs.Meaning.{NoneEmpty}
 use Rattle.analysis.specs.declared.Reason.{Reason}
 use Rattle.analysis.specs.declared.Finding.the-variants.{Accepted}
 use Rattle.analysis.specs.declared.Effect.{Effect}
@@ -20,10 +20,11 @@ use Rattle.analysis.specs.Effects.{effect}
 use Rattle.analysis.specs.Form.{instruction, HasForm}
 use Rattle.analysis.specs.Judged.{Flow, refuses, flows, apply, judged}
 use Rattle.analysis.specs.Promise.{together, flowing, flow, knownFrom, known, Allows}
-use Rattle.analysis.specs.Sharper.{SharperFacts, SharperComing, SharperThere, SharperFlow, Coherent, TellsMore, PossibleFacts}
+use Rattle.analysis.specs.Sharper.{SharperComing, SharperThere, SharperFlow, Calculating, SomeResult, TellsMore, PossibleFacts}
 use Rattle.analysis.proofs.Annotated.{instruction-words}
 use Rattle.analysis.proofs.Eleven.{Eleven, ElevenFlow, together-eleven, cond-eleven, apply-eleven, known-eleven}
-use Rattle.analysis.proofs.SharperEffects.{same-tells-more, possible-is-coherent}
+use Rattle.analysis.proofs.OperableFacts.{none-empty-unless-a-result-is}
+use Rattle.analysis.proofs.SharperEffects.{same-tells-more, possible-has-results}
 use Rattle.analysis.proofs.SharperValues.{together-sharper, start-sharper}
 use Rattle.analysis.proofs.Whole.{accepted-exactly}
 
@@ -76,7 +77,7 @@ apply-refuses a Stop reason q = absurd (let z : _≡_ {A = ℕ} 0 1 = cc in omeg
 
 module _ (old new : List ℕ) (R S n : ℕ) (allowed : (j : ℕ) → j < n → Allows old R j)
     (more : (i : ℕ) → i < n → TellsMore R S i (instruction new i) (instruction old i))
-    (coherent : (j : ℕ) → j < n → (a : Facts) → known new S j ≡ some a → Coherent a (instruction new j)) where
+    (fine : (j : ℕ) → j < n → (a : Facts) → known new S j ≡ some a → Calculating NoneEmpty a (instruction new j)) where
   not-refused : (i : ℕ) → i < n → (a : Facts) → knownFrom old R i i ≡ some a → (reason : Reason)
       → apply a (effect R i a (instruction old i)) ≡ refuses reason → ⊥
   unfolding known
@@ -92,7 +93,7 @@ module _ (old new : List ℕ) (R S n : ℕ) (allowed : (j : ℕ) → j < n → A
   flow-sharper i l (some a′) none p q s j w′ w ew h = absurd s
   flow-sharper i l (some a′) (some a) p q s j w′ w ew h =
       flowing-sharper i j w′ w ew h _ _ (apply-eleven a (effect R i a (instruction old i)) (subst Eleven q (known-eleven old R i i)))
-      (more i l a′ a s (coherent i l a′ p)) (not-refused i l a q)
+      (more i l a′ a s (fine i l a′ p)) (not-refused i l a q)
 
   -- at each index no less is known
   pub known-sharper : (i : ℕ) → i ≤ n → (j : ℕ) → SharperComing (knownFrom new S i j) (knownFrom old R i j)
@@ -113,23 +114,24 @@ module _ (old new : List ℕ) (R S n : ℕ) (allowed : (j : ℕ) → j < n → A
       go (some a) q s =
           contradiction (apply a (effect R j a (instruction old j))) (not-refused j l a q)
           (subst (λ e. SharperFlow (apply (r .facts) e) (apply a (effect R j a (instruction old j)))) (r .refuses-it)
-          (more j l (r .facts) a s (coherent j l (r .facts) (r .knows))))
+          (more j l (r .facts) a s (fine j l (r .facts) (r .knows))))
         where
           contradiction : (f : Flow) → ((reason : Reason) → f ≡ refuses reason → ⊥) → SharperFlow (apply (r .facts) (Refuse reason)) f → ⊥
           contradiction (refuses s) m k = m s refl
           contradiction (flows x y z) m k = k
 
--- a program of good form that tells no less is accepted, if it calculates with no range that is empty
+-- a program of good form that tells no less is accepted, unless a result that it calculates is empty
 pub accepted-with-more-told : (old new : List ℕ) (R S : ℕ) → judged old R .finding ≡ Accepted → HasForm new S → length new ≡ length old
     → ((i : ℕ) → i < length new / 8 → TellsMore R S i (instruction new i) (instruction old i))
-    → ((j : ℕ) → j < length new / 8 → (a : Facts) → known new S j ≡ some a → Coherent a (instruction new j))
+    → ((j : ℕ) → j < length new / 8 → (a : Facts) → known new S j ≡ some a → Calculating SomeResult a (instruction new j))
     → judged new S .finding ≡ Accepted
-accepted-with-more-told old new R S e form same more coherent =
+accepted-with-more-told old new R S e form same more results =
+    let n = length new / 8 in
     let all = accepted-exactly old R .0 e .1 in
     accepted-exactly new S .1 (
       form,
-      allows-sharper old new R S (length new / 8)
-          (λ j l. all j (subst (λ (k : ℕ). j < k / 8) same l)) more coherent,
+      allows-sharper old new R S n (λ j l. all j (subst (λ (k : ℕ). j < k / 8) same l)) more
+          (none-empty-unless-a-result-is new S n results),
     )
 
 -- so where one instruction is replaced by one that tells more
@@ -146,11 +148,12 @@ module _ (old new : List ℕ) (R k : ℕ) (e : judged old R .finding ≡ Accepte
           (same-tells-more R R i (omega arith) (instruction old i) (instruction-words old i))
 
   pub accepted-with-one-that-tells-more :
-      ((j : ℕ) → j < length new / 8 → (a : Facts) → known new R j ≡ some a → Coherent a (instruction new j)) → judged new R .finding ≡ Accepted
+      ((j : ℕ) → j < length new / 8 → (a : Facts) → known new R j ≡ some a → Calculating SomeResult a (instruction new j))
+      → judged new R .finding ≡ Accepted
   accepted-with-one-that-tells-more = accepted-with-more-told old new R R e form same (λ i l. each-tells-more i)
 
   -- and where what is known at each index is possible
   pub accepted-where-possible : ((j : ℕ) → j < length new / 8 → (a : Facts) → known new R j ≡ some a → PossibleFacts a)
       → judged new R .finding ≡ Accepted
   accepted-where-possible possible =
-      accepted-with-one-that-tells-more (λ j l a q. possible-is-coherent a (instruction new j) (instruction-words new j) (possible j l a q))
+      accepted-with-one-that-tells-more (λ j l a q. possible-has-results a (instruction new j) (instruction-words new j) (possible j l a q))

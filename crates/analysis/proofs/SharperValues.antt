@@ -15,7 +15,6 @@ use Rattle.number.specs.Sharpen.{exact, joinedNumber}
 use Rattle.number.proofs.Laws.{exact-in, joined-in-order, joined-form, joined-wider-left, joined-wider-right}
 use Rattle.analysis.specs.declared.Region.{Region}
 use Rattle.analysis.specs.declared.Region.the-variants.{Record, Stack}
-use Rattle.analysis.specs.declared.Gone.{Gone}
 use Rattle.analysis.specs.declared.Gone.the-variants.{Never, Mixed}
 use Rattle.analysis.specs.declared.Value.{Value}
 use Rattle.analysis.specs.declared.Value.the-variants.{Unusable, Plain, Address}

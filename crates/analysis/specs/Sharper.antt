@@ -3,7 +3,7 @@
 use mathlib.Core.Path.{_≡_}
 use mathlib.Core.List.{List, [], _∷_}
 use mathlib.Core.Option.{Option, none, some}
-use Prim.Native.Nat.{ℕ}
+use Prim.Native.Nat.{ℕ, _≤_}
 use Rattle.word.specs.declared.Operation.{Operation}
 use Rattle.word.specs.declared.Operation.the-variants.{Add, Sub}
 use Rattle.word.specs.declared.Operation.the-variants as operation
@@ -14,6 +14,7 @@ use Rattle.known_bits.specs.KnownBits.{Well}
 use Rattle.number.specs.declared.Number.{Number}
 use Rattle.number.specs.Meaning.{In, Narrower, NoneEmpty}
 use Rattle.number.specs.Sharpen.{exact}
+use Rattle.number.specs.Computed.{computed}
 use Rattle.analysis.specs.declared.Gone.the-variants.{Never, Mixed}
 use Rattle.analysis.specs.declared.Value.{Value}
 use Rattle.analysis.specs.declared.Value.the-variants.{Unusable, Plain, Address}
@@ -72,39 +73,45 @@ SharperFlow (refuses r) (flows next there target) = ⊥
 SharperFlow (flows next′ there′ target′) (refuses s) = Unit {0}
 SharperFlow (flows next′ there′ target′) (flows next there target) = SharperComing next′ next × SharperThere there′ target′ there target
 
--- ---- no range is empty that an instruction calculates with
-abbrev pub NoneEmptyOf : ℕ → Operation → Value → Value → Type 0
-NoneEmptyOf w op (Unusable g) y = Unit {0}
-NoneEmptyOf w op (Plain a) (Unusable h) = Unit {0}
-NoneEmptyOf w op (Plain a) (Plain b) = NoneEmpty w op a b
-NoneEmptyOf w op (Plain a) (Address q b) = NoneEmpty w op b a
-NoneEmptyOf w op (Address p a) (Unusable h) = Unit {0}
-NoneEmptyOf w op (Address p a) (Plain b) = NoneEmpty w op a b
-NoneEmptyOf w op (Address p a) (Address q b) = Unit {0}
+-- ---- P holds of what an instruction calculates: of an operation at w bits and two Numbers
+abbrev pub OfNumbers : (ℕ → Operation → Number → Number → Type 0) → ℕ → Operation → Value → Value → Type 0
+OfNumbers P w op (Unusable g) y = Unit {0}
+OfNumbers P w op (Plain a) (Unusable h) = Unit {0}
+OfNumbers P w op (Plain a) (Plain b) = P w op a b
+OfNumbers P w op (Plain a) (Address q b) = P w op b a
+OfNumbers P w op (Address p a) (Unusable h) = Unit {0}
+OfNumbers P w op (Address p a) (Plain b) = P w op a b
+OfNumbers P w op (Address p a) (Address q b) = Unit {0}
 
-abbrev pub CoherentAlu : Role → ℕ → Operation → Value → Value → Type 0
-CoherentAlu copies w op x y = Unit {0}
-CoherentAlu converts w op x y = NoneEmptyOf w op y y
-CoherentAlu adds w op x y = NoneEmptyOf 64 Add x y
-CoherentAlu subtracts w op x y = NoneEmptyOf 64 Sub x y
-CoherentAlu calculates w op x y = NoneEmptyOf w op x y
+abbrev pub OfRole : (ℕ → Operation → Number → Number → Type 0) → Role → ℕ → Operation → Value → Value → Type 0
+OfRole P copies w op x y = Unit {0}
+OfRole P converts w op x y = OfNumbers P w op y y
+OfRole P adds w op x y = OfNumbers P 64 Add x y
+OfRole P subtracts w op x y = OfNumbers P 64 Sub x y
+OfRole P calculates w op x y = OfNumbers P w op x y
 
-abbrev pub Coherent : Facts → Instruction → Type 0
-Coherent a (Alu w op d s) = CoherentAlu (role w op) (bits w) op (valueOf a d) (operandOf a s)
-Coherent a (Neg w d) = NoneEmptyOf (bits w) operation.Neg (valueOf a d) (valueOf a d)
-Coherent a (Jump w c d s off) = Unit {0}
-Coherent a (Always off) = Unit {0}
-Coherent a Exit = Unit {0}
-Coherent a (Load z d s off) = NoneEmptyOf 64 Add (valueOf a s) (Plain (exact off))
-Coherent a (Store z d off s) = NoneEmptyOf 64 Add (valueOf a d) (Plain (exact off))
-Coherent a NoInstruction = Unit {0}
+-- a load and a store add the offset to the address
+abbrev pub Calculating : (ℕ → Operation → Number → Number → Type 0) → Facts → Instruction → Type 0
+Calculating P a (Alu w op d s) = OfRole P (role w op) (bits w) op (valueOf a d) (operandOf a s)
+Calculating P a (Neg w d) = OfNumbers P (bits w) operation.Neg (valueOf a d) (valueOf a d)
+Calculating P a (Jump w c d s off) = Unit {0}
+Calculating P a (Always off) = Unit {0}
+Calculating P a Exit = Unit {0}
+Calculating P a (Load z d s off) = OfNumbers P 64 Add (valueOf a s) (Plain (exact off))
+Calculating P a (Store z d off s) = OfNumbers P 64 Add (valueOf a d) (Plain (exact off))
+Calculating P a NoInstruction = Unit {0}
 
--- an instruction tells no less than another, with a record of S bytes for one of R
+-- the result is not empty: there is a number from lo to hi
+abbrev pub SomeResult : ℕ → Operation → Number → Number → Type 0
+SomeResult w op a b = computed w op a b .range .lo ≤ computed w op a b .range .hi
+
+-- an instruction tells no less than another, with a record of S bytes for one of R, where no range is empty that it calculates with
 abbrev pub TellsMore : ℕ → ℕ → ℕ → Instruction → Instruction → Type 0
 TellsMore R S i new old =
-    (a′ a : Facts) → SharperFacts a′ a → Coherent a′ new → SharperFlow (apply a′ (effect S i a′ new)) (apply a (effect R i a old))
+    (a′ a : Facts) → SharperFacts a′ a → Calculating NoneEmpty a′ new
+    → SharperFlow (apply a′ (effect S i a′ new)) (apply a (effect R i a old))
 
--- ---- every Number has a number, as at each index that a run comes to. Then nothing that is calculated is empty
+-- ---- every Number has a number, as at each index that a run comes to
 abbrev pub PossibleValue : Value → Type 0
 PossibleValue (Unusable g) = Unit {0}
 PossibleValue (Plain n) = (x : ℕ) × In n x

@@ -11,7 +11,7 @@ use borrow.Author.Tests.{eqb-true, eqb-false, eq-eqb, ltb-true, ltb-false}
 use Rattle.word.specs.Word.{bit, alu}
 use Rattle.word.specs.declared.Operation.the-variants.{Add}
 use Rattle.known_bits.specs.declared.Bits.{Bits}
-use Rattle.known_bits.specs.Formula.{sum, joined, among, highestProduct, productMask, placed, withDigit, lowDigits, shiftAndAdd, meet, known, product}
+use Rattle.known_bits.specs.Formula.{sum, joined, among, highestProduct, productMask, placed, withDigit, lowDigits, shiftAndAdd, known, product}
 use Rattle.known_bits.specs.KnownBits.{Well, Mem, Best}
 use Rattle.known_bits.specs.Masks.{Covers}
 use Rattle.known_bits.specs.Pair.{top}

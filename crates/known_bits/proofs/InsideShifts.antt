@@ -15,7 +15,7 @@ use Rattle.word.specs.declared.Operation.the-variants.{Lsh, Rsh, Arsh}
 use Rattle.word.proofs.Bit.{bit-lt, bit-zero, some-bit, ext}
 use Rattle.known_bits.specs.declared.Bits.{Bits}
 use Rattle.known_bits.specs.Formula.{upTo, among, highestShifted, leftMask, signedRight, single, shiftedUnknown, shifted}
-use Rattle.known_bits.specs.KnownBits.{Well, Mem, Sound, Best}
+use Rattle.known_bits.specs.KnownBits.{Well, Sound, Best}
 use Rattle.known_bits.specs.Masks.{Covers}
 use Rattle.known_bits.specs.Pair.{top, packed}
 use Rattle.known_bits.proofs.Among.{low-among, top-fits}

@@ -1,31 +1,27 @@
--- Knowing more never hurts an operation on Numbers: what is computed of narrower operands is narrower, unless it contradicts itself; and it
--- does not where each operand has a number. Where paths join nothing has to be asked.
-use mathlib.Core.Path.{_≡_, refl, sym, subst}
-use Prim.Native.Nat.{ℕ, _%_, _/_, _^_, _≤_, _<_, min, max}
+-- Knowing more never hurts an operation on Numbers: what is computed of narrower operands is narrower, unless a range on the way is empty.
+-- Where paths join nothing has to be asked.
+use mathlib.Core.Path.{_≡_, subst}
+use Prim.Native.Nat.{ℕ, _%_, _^_, _≤_, _<_}
 use native.Mathlib.Nat.{mod-eq-of-lt, lt-of-le-of-lt, le-trans}
 use native.Mathlib.Decide.{decLt}
 use native.Mathlib.Omega.{arith}
 use lib.Pow.{pow-pos}
 use Rattle.word.specs.declared.Operation.{Operation}
 use Rattle.word.proofs.Bit.{low-le}
-use Rattle.known_bits.specs.declared.Bits.{Bits}
-use Rattle.known_bits.specs.KnownBits.{Well, Mem}
-use Rattle.known_bits.specs.Formula.{low, calculated}
+use Rattle.known_bits.specs.KnownBits.{Well}
+use Rattle.known_bits.specs.Formula.{low}
 use Rattle.known_bits.specs.Pair.{top}
 use Rattle.known_bits.proofs.Computing.{calculated-computed}
 use Rattle.known_bits.proofs.Inside.{joined-inside}
 use Rattle.known_bits.proofs.InsideComputing.{calculated-inside}
 use Rattle.known_bits.proofs.Laws.{mem-bounds}
 use Rattle.known_bits.proofs.Tight.{mem-least, mem-top, mem-low, mem-high}
-use Rattle.number.specs.declared.Range.{Range}
 use Rattle.number.specs.declared.Number.{Number}
-use Rattle.number.specs.Meaning.{Within, In, RangeWithin, BitsWithin, Narrower, NoneEmpty}
-use Rattle.number.specs.Sharpen.{narrowed, sharpened, joinedRange, joinedNumber}
-use Rattle.number.specs.Computed.{block, modulo, second, computedRange, computed}
-use Rattle.number.proofs.Cases.{by-equal}
-use Rattle.number.proofs.Computing.{computed-sound}
+use Rattle.number.specs.Meaning.{In, Narrower, NoneEmpty}
+use Rattle.number.specs.Sharpen.{narrowed, joinedRange, joinedNumber}
+use Rattle.number.specs.Computed.{modulo, second, computedRange, computed}
 use Rattle.number.proofs.Known.{low-of-words}
-use Rattle.number.proofs.Operands.{block-of-more, Wide, base, base-is-power, second-is-modulo, modulo-in, modulo-below, second-in, second-below}
+use Rattle.number.proofs.Operands.{block-of-more, Wide, base, base-is-power, second-is-modulo, modulo-in, modulo-below, second-below}
 use Rattle.number.proofs.Outcomes.{Some}
 use Rattle.number.proofs.RangesInOrder.{Shrinks, block-shrinks, ranged-shrinks}
 use Rattle.number.proofs.Results.{wide-at-most-64}
@@ -108,7 +104,7 @@ module _ (w : ℕ) (wide : Wide w) (op : Operation) (a′ b′ a b : Number) (ga
       (calculated-inside w wide op (a′ .bits) (b′ .bits) (a .bits) (b .bits) (oa .form) (ob .form) ga gb (ha .bits) (hb .bits)) _ _
       (computed-range-shrinks .within)
 
--- ---- where no range is empty, so where each operand has a number
+-- ---- where no range is empty
 module _ (w : ℕ) (wide : Wide w) (op : Operation) (a′ b′ a b : Number) (ga′ : Well 64 (a′ .bits)) (gb′ : Well 64 (b′ .bits))
     (ga : Well 64 (a .bits))
     (gb : Well 64 (b .bits)) (ha : Narrower a′ a) (hb : Narrower b′ b) where
@@ -116,18 +112,6 @@ module _ (w : ℕ) (wide : Wide w) (op : Operation) (a′ b′ a b : Number) (ga
   computed-narrower n =
       computed-in-order w wide op a′ b′ a b ga gb ha hb (record { form = ga′; some = n .first; taken = n .first-taken })
       (record { form = gb′; some = n .other; taken = subst Some (second-is-modulo w op b′) (n .other-taken) }) (n .result)
-
-pub none-empty-of-members : (w : ℕ) → Wide w → (op : Operation) (a b : Number) (x y : ℕ) → In a x → In b y → NoneEmpty w op a b
-none-empty-of-members w wide op a b x y i j =
-    let u = modulo-in w a (wide-at-most-64 w wide) x i in
-    let v = second-in w wide op b y j in
-    record {
-      first = some-in a x i;
-      first-taken = le-trans (u .low) (u .high);
-      other = some-in b y j;
-      other-taken = le-trans (v .low) (v .high);
-      result = some-in (computed w op a b) _ (computed-sound w wide op a b x y i j);
-    }
 
 -- ---- where paths join
 module _ (a′ b′ a b : Number) (ga′ : Well 64 (a′ .bits)) (gb′ : Well 64 (b′ .bits)) (ga : Well 64 (a .bits)) (gb : Well 64 (b .bits))

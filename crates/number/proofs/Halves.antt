@@ -91,7 +91,7 @@ module _ (r t : Range) where
   halves-of-range-have x i j =
       by-less (λ u. Within u x) (r .hi) (2 ^ 32) (λ h. record { low = omega arith; high = omega arith }) (λ h. i)
 
-  halves-of-range-within : RangeWithin (halvesOfRange r t) r
+  pub halves-of-range-within : RangeWithin (halvesOfRange r t) r
   unfolding halvesOfRange common
   halves-of-range-within =
       by-less (λ u. RangeWithin u r) (r .hi) (2 ^ 32) (λ h. record { low = omega arith; high = omega arith })
@@ -107,7 +107,7 @@ module _ (n l : Number) where
         range = halves-of-range-have (n .range) (l .range) x (i .range) (j .range);
       }
 
-  with-low-form : Well 64 (n .bits) → Well 64 (l .bits) → Well 64 (withLow n l .bits)
+  pub with-low-form : Well 64 (n .bits) → Well 64 (l .bits) → Well 64 (withLow n l .bits)
   unfolding withLow
   with-low-form g h = halves-of-bits-form (n .bits) (l .bits) g h
 

@@ -1,18 +1,17 @@
 -- Knowing more never hurts a comparison of low halves: what `WaysInOrder` says of whole numbers.
-use mathlib.Core.Path.{_≡_, refl, sym, ap, _∙_, subst}
+use mathlib.Core.Path.{_≡_, refl, sym, _∙_, subst}
 use mathlib.Core.Bool.{Bool, true, false, cond}
 use mathlib.Core.Logic.{inr}
-use Prim.Native.Nat.{ℕ, _-_, _*_, _^_, _≤_, _<_, min, max}
-use native.Mathlib.Nat.{lt-of-le-of-lt}
+use Prim.Native.Nat.{ℕ, _^_, _<_}
 use native.Mathlib.Decide.{decLt}
 use native.Mathlib.Omega.{arith}
 use lib.Dec.{lit<}
-use Rattle.word.specs.Word.{bit, alu}
+use Rattle.word.specs.Word.{bit}
 use Rattle.word.specs.declared.Operation.the-variants.{Add, Mov}
 use Rattle.word.specs.declared.Comparison.{Comparison}
 use Rattle.word.proofs.Pinned.{result-below}
 use Rattle.known_bits.specs.declared.Bits.{Bits}
-use Rattle.known_bits.specs.KnownBits.{Well, Mem}
+use Rattle.known_bits.specs.KnownBits.{Well}
 use Rattle.known_bits.specs.Formula.{among}
 use Rattle.known_bits.specs.Pair.{top}
 use Rattle.known_bits.proofs.Inside.{mask-covers-mask, known-is-kept}
@@ -22,12 +21,11 @@ use Rattle.number.specs.declared.Range.{Range}
 use Rattle.number.specs.declared.Number.{Number}
 use Rattle.number.specs.declared.Refined.{Refined}
 use Rattle.number.specs.declared.Refined.the-variants.{Excluded, Possible}
-use Rattle.number.specs.Meaning.{In, RangeWithin, BitsWithin, Narrower, Left, LeavesNoMore}
-use Rattle.number.specs.Sharpen.{exact, loaded, everything}
-use Rattle.number.specs.Computed.{modulo, computedRange, computed}
-use Rattle.number.specs.Compare.{settled, bounds, common, equal, firsts, refined}
+use Rattle.number.specs.Meaning.{RangeWithin, BitsWithin, Narrower, Left, LeavesNoMore}
+use Rattle.number.specs.Sharpen.{exact, loaded}
+use Rattle.number.specs.Compare.{bounds, common, equal}
 use Rattle.number.specs.Halves.{unsigned, signed, lowHalf, movedHalf, compared, movedBack, lowHalves, halves, halvesOfBits, halvesOfRange, withLow, whole, refined32}
-use Rattle.number.proofs.Cases.{by-test, by-less}
+use Rattle.number.proofs.Cases.{by-less}
 use Rattle.number.proofs.Compare.{refined-sharper}
 use Rattle.number.proofs.ComputedInOrder.{Operand, operand-of-bounds, operand-of-member, computed-in-order}
 use Rattle.number.proofs.Computing.{computed-best, computed-range-within}
@@ -231,7 +229,7 @@ module _ (d′ s′ d s : Number) (gd : Well 64 (d .bits)) (gs : Well 64 (s .bit
       (told-in-order c way)
 
 module _ (c : Comparison) (way : Bool) (d s : Number) (gd : Well 64 (d .bits)) (gs : Well 64 (s .bits)) where
-  halves-left : Left (lowHalves c d s (told c way d s)) (λ l m. LowOf d l × LowOf s m)
+  pub halves-left : Left (lowHalves c d s (told c way d s)) (λ l m. LowOf d l × LowOf s m)
   halves-left =
       low-halves-leave d s gd gs c (told c way d s)
       (refined-sharper (unsigned c) way (compared c d) (compared c s) (compared-form c d gd) (compared-form c s gs))

@@ -10,10 +10,12 @@ pub use Rattle.number.proofs.AgainstKnown.{refined-exact, refined-exact
 -- the same of a comparison of low halves
 pub use Rattle.number.proofs.Halves.{refined32-sound, refined32-narrower, refined32-exact, refined32-exact-excluded}
 -- of what is known better no less is known: an operation in which no range is empty, a join, a way out of a comparison at either width
-pub use Rattle.number.proofs.ComputedInOrder.{computed-narrower, none-empty-of-members, joined-in-order}
+pub use Rattle.number.proofs.ComputedInOrder.{computed-narrower, joined-in-order}
 pub use Rattle.number.proofs.Known.{joined-form, joined-wider-left, joined-wider-right}
 pub use Rattle.number.proofs.WaysInOrder.{refined-in-order}
 pub use Rattle.number.proofs.Compare.{refined-form}
 pub use Rattle.number.proofs.HalvesInOrder.{refined32-in-order, refined32-form}
+-- and unless a result is empty no range is
+pub use Rattle.number.proofs.Operable.{Operable, joined-operable, member-operable, none-empty-but-the-result, computed-operable, refined-operable, refined32-operable}
 -- everything that is demanded
 pub use Rattle.number.proofs.AllDemanded.{all-demanded}

@@ -17,6 +17,7 @@ pub mod HalvesWithin
 pub mod Known
 pub mod Laws
 pub mod Limits
+pub mod Operable
 pub mod Operands
 pub mod Orders
 pub mod Outcomes

@@ -1,6 +1,6 @@
 -- Knowing more never hurts the range of an operation: of less wide ranges the range is less wide, and none of it is empty. Most ends of a
 -- range are results, which a wider one has; otherwise the wider one is told by the same test.
-use mathlib.Core.Path.{_≡_, refl, sym, ap, _∙_}
+use mathlib.Core.Path.{_≡_, sym, _∙_}
 use mathlib.Core.Bool.{true, false, cond}
 use Prim.Native.Nat.{ℕ, _+_, _-_, _*_, _/_, _%_, _^_, _≤_, _<_, min, max}
 use native.Mathlib.Nat.{mod-lt, mod-eq-of-lt, mul-le-mul, le-trans, le-refl}
@@ -9,10 +9,9 @@ use lib.Pow.{pow-pos, pow-mono}
 use lib.Bits.{bitOr, or-lt}
 use lib.Dec.{eqb}
 use borrow.Author.Tests.{eqb-true, eq-eqb}
-use Rattle.word.specs.Word.{cut, alu}
+use Rattle.word.specs.Word.{alu}
 use Rattle.word.specs.declared.Operation.{Operation}
 use Rattle.word.specs.declared.Operation.the-variants.{Add, Sub, Mul, Div, Or, And, Lsh, Rsh, Neg, Mod, Xor, Mov, Arsh}
-use Rattle.known_bits.specs.Formula.{upTo}
 use Rattle.number.specs.declared.Range.{Range}
 use Rattle.number.specs.Meaning.{Within, RangeWithin}
 use Rattle.number.specs.Sharpen.{just, everything}
@@ -21,7 +20,7 @@ use Rattle.number.specs.Computed.{block}
 use Rattle.number.proofs.Cases.{both-hold, by-test, by-less, by-at-most, by-equal}
 use Rattle.number.proofs.Operands.{Wide, base, rest-in-order, same-quotient-between}
 use Rattle.number.proofs.Outcomes.{Some}
-use Rattle.number.proofs.RangeLaws.{sum-range-has, difference-range-has, product-range-has, quotient-range-has, rest-range-has, at-most-the-longest, or-range-has, xor-range-has, and-range-has, left-range-has, right-range-has, signed-right-range-has}
+use Rattle.number.proofs.RangeLaws.{sum-range-has, difference-range-has, product-range-has, quotient-range-has, rest-range-has, at-most-the-longest, or-range-has, left-range-has, right-range-has, signed-right-range-has}
 use Rattle.number.proofs.Results.{rest-is, rest-by-none, wide-at-most-64, word}
 use Rattle.number.proofs.Sharpening.{up-to-below}
 

@@ -1,7 +1,7 @@
 -- Knowing more never hurts where a pair and a range sharpen each other: of less wide halves less is left, unless they contradict each
 -- other, so that the range that is left is empty.
-use mathlib.Core.Path.{_≡_, sym, ap, _∙_, subst}
-use Prim.Native.Nat.{ℕ, _*_, _/_, _%_, _^_, _≤_, _<_, min, max}
+use mathlib.Core.Path.{_≡_, sym, ap, _∙_}
+use Prim.Native.Nat.{ℕ, _*_, _/_, _%_, _^_, _≤_, _<_}
 use native.Mathlib.Nat.{mod-lt, zero-mul, div-eq-of-lt, lt-of-le-of-lt, le-trans}
 use native.Mathlib.Omega.{arith}
 use lib.Pow.{pow-pos, shr-mono, split}
@@ -9,14 +9,12 @@ use lib.Bits.{bitOr, bitXor, and-le-r, xor-lt, xor-shr, xor-self, or-shr, or-zer
 use Rattle.word.specs.Word.{bit}
 use Rattle.word.proofs.Bit.{bit-lt, bit-high}
 use Rattle.known_bits.specs.declared.Bits.{Bits}
-use Rattle.known_bits.specs.KnownBits.{Well, Mem}
+use Rattle.known_bits.specs.KnownBits.{Well}
 use Rattle.known_bits.specs.Formula.{upTo}
 use Rattle.known_bits.specs.Pair.{top}
 use Rattle.known_bits.proofs.Inside.{value-grows, top-falls}
-use Rattle.known_bits.proofs.Laws.{mem-bounds}
-use Rattle.known_bits.proofs.Tight.{digit, mem-least, mem-top, apart-bit}
+use Rattle.known_bits.proofs.Tight.{digit, mem-top, apart-bit}
 use Rattle.number.specs.declared.Range.{Range}
-use Rattle.number.specs.declared.Number.{Number}
 use Rattle.number.specs.Meaning.{Within, RangeWithin, BitsWithin, Narrower}
 use Rattle.number.specs.Sharpen.{narrowed, stillUnknown, learnt, sharpened}
 use Rattle.number.proofs.Outcomes.{Some}
@@ -31,19 +29,19 @@ module _ (p′ p : Bits) (g′ : Well 64 p′) (g : Well 64 p) (i : BitsWithin p
       record { low = omega (arith, r .low); high = omega (arith, r .high) }
 
 -- the ends of a pair whose mask has no bit from k on have the bits from k on of all between them
-same-lead-as-ends : (p : Bits) (k y : ℕ) → p .mask < 2 ^ k → p .value ≤ y → y ≤ top p → p .value / 2 ^ k ≡ y / 2 ^ k
+pub same-lead-as-ends : (p : Bits) (k y : ℕ) → p .mask < 2 ^ k → p .value ≤ y → y ≤ top p → p .value / 2 ^ k ≡ y / 2 ^ k
 same-lead-as-ends p k y h l t =
     let e : top p / 2 ^ k ≡ p .value / 2 ^ k = or-shr (p .value) (p .mask) k ∙ ap (bitOr (p .value / 2 ^ k)) (div-eq-of-lt h) ∙ or-zero-r
     (p .value / 2 ^ k) in
     omega (arith, shr-mono k l, shr-mono k t)
 
-no-difference-from : (l h k : ℕ) → l / 2 ^ k ≡ h / 2 ^ k → bitXor l h < 2 ^ k
+pub no-difference-from : (l h k : ℕ) → l / 2 ^ k ≡ h / 2 ^ k → bitXor l h < 2 ^ k
 no-difference-from l h k e =
     let z : bitXor l h / 2 ^ k ≡ 0 = xor-shr l h k ∙ ap (λ (m : ℕ). bitXor m (h / 2 ^ k)) e ∙ xor-self (h / 2 ^ k) in
     let o : bitXor l h / 2 ^ k * 2 ^ k ≡ 0 = ap (λ (m : ℕ). m * 2 ^ k) z ∙ zero-mul (2 ^ k) in
     omega (arith, split (bitXor l h) k, mod-lt (bitXor l h) (pow-pos k))
 
-learnt-mask-below : (p : Bits) (u : Range) (k : ℕ) → bitXor (u .lo) (u .hi) < 2 ^ k → learnt p u .mask < 2 ^ k
+pub learnt-mask-below : (p : Bits) (u : Range) (k : ℕ) → bitXor (u .lo) (u .hi) < 2 ^ k → learnt p u .mask < 2 ^ k
 unfolding learnt stillUnknown
 learnt-mask-below p u k n = lt-of-le-of-lt (and-le-r (p .mask) (upTo (bitXor (u .lo) (u .hi)))) (up-to-below (bitXor (u .lo) (u .hi)) k n)
 

@@ -1,22 +1,21 @@
 -- Knowing more never hurts a comparison: a way out that was excluded stays excluded, and of narrower numbers narrower ones are left. Only
 -- the form of the pairs is asked, since a way on which a range is empty is excluded.
-use mathlib.Core.Path.{_≡_, refl, sym, ap, _∙_, subst}
+use mathlib.Core.Path.{_≡_, refl}
 use mathlib.Core.Bool.{Bool, true, false, cond, _&&_}
 use mathlib.Core.Logic.{inl}
-use Prim.Native.Nat.{ℕ, _+_, _-_, _^_, _≤_, _<_, min, max}
+use Prim.Native.Nat.{ℕ, _+_, _^_, _<_}
 use native.Mathlib.Decide.{ℕ-discrete}
 use native.Mathlib.Omega.{arith}
-use lib.Bits.{bitAnd, and-zero-l}
+use lib.Bits.{bitAnd}
 use lib.Dec.{eqb, leb, ltb, lit<}
-use borrow.Author.Tests.{ltb-false, leb-true, le-leb, le-ltb, eqb-true, eqb-false, ne-eqb}
-use Rattle.word.specs.Word.{bit}
+use borrow.Author.Tests.{leb-true, le-leb, le-ltb, ne-eqb}
 use Rattle.word.specs.declared.Operation.the-variants.{Add}
 use Rattle.word.specs.declared.Comparison.{Comparison}
 use Rattle.known_bits.specs.declared.Bits.{Bits}
 use Rattle.known_bits.specs.declared.Learnt.{Learnt}
 use Rattle.known_bits.specs.declared.Learnt.the-variants.{Pair, Nothing}
 use Rattle.known_bits.specs.KnownBits.{Well, Both, Apart}
-use Rattle.known_bits.specs.Formula.{cleared, met}
+use Rattle.known_bits.specs.Formula.{met}
 use Rattle.known_bits.specs.Learn.{Learns}
 use Rattle.known_bits.specs.Pair.{top}
 use Rattle.known_bits.proofs.Inside.{LearntInside, met-inside, cleared-inside}
@@ -28,9 +27,8 @@ use Rattle.number.specs.declared.Refined.{Refined}
 use Rattle.number.specs.declared.Refined.the-variants.{Excluded, Possible}
 use Rattle.number.specs.Meaning.{RangeWithin, Narrower, Left, LeavesNoMore}
 use Rattle.number.specs.Sharpen.{narrowed, sharpened, exact}
-use Rattle.number.specs.Computed.{computed}
 use Rattle.number.specs.Compare.{settled, bounds, orderedIn, ordered, exchanged, common, equalBy, equal, empty, without, apartFrom, unequal, resharpened, disjointBy, disjointOf, disjoint, overlappingOf, overlapping, turned, firsts, turnedBack, signedOrdered, refined}
-use Rattle.number.proofs.Cases.{by-test, by-less, by-equal}
+use Rattle.number.proofs.Cases.{by-less, by-equal}
 use Rattle.number.proofs.ComputedInOrder.{word-operand, operand-of-member, computed-in-order}
 use Rattle.number.proofs.Computing.{computed-form}
 use Rattle.number.proofs.Equality.{ApartLeft, apart-leaves, equal-leaves}
@@ -41,7 +39,7 @@ use Rattle.number.proofs.Outcomes.{Some, some-of-within, Sharper, left-
 use Rattle.number.proofs.Relations.{Relation, Below, SignedBelow, Exchanged, Same, Different, Disjoint, Overlapping, told, relation, refined-is-told}
 use Rattle.number.proofs.SharedBits.{resharpened-form, none-shared-by-tops, disjoint-leaves, narrower-than-itself, overlapping-leaves}
 use Rattle.number.proofs.SharpenedInOrder.{narrowed-in-order, sharpened-in-order}
-use Rattle.number.proofs.Sharpening.{sharpened-form, sharpened-range-within}
+use Rattle.number.proofs.Sharpening.{sharpened-range-within}
 use Rattle.number.proofs.Signs.{SignedLeft, signedOrdered-leaves}
 
 -- ---- through the steps by which a `Refined` is made
@@ -286,59 +284,68 @@ turned-in-order n′ n g′ g h s =
     (word-operand n′ g′ s)
     (operand-of-member 64 (omega arith) (exact (2 ^ 63)) (2 ^ 63) e)
 
-sharpened-bounds : (p : Bits) (t : Range) → Some (sharpened p t .range) → Some (bounds (sharpened p t))
+pub sharpened-bounds : (p : Bits) (t : Range) → Some (sharpened p t .range) → Some (bounds (sharpened p t))
 unfolding sharpened bounds narrowed
 sharpened-bounds p t s = omega (arith, s)
 
--- all that is left is sharpened, so some number is left between the ends of each pair
+-- all that is left is sharpened: what holds of each Number that is, and is not empty, holds of what is left
+module _ (Q : Number → Type 0) (q : (p : Bits) (t : Range) → Some (sharpened p t .range) → Q (sharpened p t)) where
+  abbrev Each : Number → Number → Type 0
+  Each u v = Q u × Q v
+
+  settled-leaves-sharpened : (p p′ : Bits) (t t′ : Range) → Left (settled (sharpened p t) (sharpened p′ t′)) Each
+  settled-leaves-sharpened p p′ t t′ = settled-leaves (sharpened p t) (sharpened p′ t′) Each (λ a b. (q p t a, q p′ t′ b))
+
+  equalBy-leaves-sharpened : (r : Learnt) (t : Range) → Left (equalBy r t) Each
+  unfolding equalBy
+  equalBy-leaves-sharpened Nothing t = tt
+  equalBy-leaves-sharpened (Pair p) t = settled-leaves-sharpened p p t t
+
+  equal-leaves-sharpened : (d s : Number) → Left (equal d s) Each
+  unfolding equal
+  equal-leaves-sharpened d s = equalBy-leaves-sharpened (met (d .bits) (s .bits)) (common (d .range) (s .range))
+
+  -- the first of each of two equalities
+  pub firsts-leave-sharpened : (d u s v : Number) → Left (firsts (equal d u) (equal s v)) Each
+  firsts-leave-sharpened d u s v =
+      firsts-leave (equal d u) (equal s v) Q Q (left-map (equal d u) Each (λ m m′. Q m) (λ m m′ h. h .0) (equal-leaves-sharpened d u))
+      (left-map (equal s v) Each (λ n n′. Q n) (λ n n′ h. h .0) (equal-leaves-sharpened s v))
+
+  disjointBy-leaves-sharpened : (r r′ : Learnt) (d s : Number) → Left (disjointBy r r′ d s) Each
+  unfolding disjointBy
+  disjointBy-leaves-sharpened Nothing r′ d s = tt
+  disjointBy-leaves-sharpened (Pair p) Nothing d s = tt
+  disjointBy-leaves-sharpened (Pair p) (Pair p′) d s = settled-leaves-sharpened p p′ (d .range) (s .range)
+
+  turnedBack-leaves-sharpened : (d s : Number) (r : Refined) → Left (turnedBack d s r) Each
+  unfolding turnedBack
+  turnedBack-leaves-sharpened d s Excluded = tt
+  turnedBack-leaves-sharpened d s (Possible u v) = firsts-leave-sharpened d (turned u) s (turned v)
+
+  told-leaves-sharpened : (r : Relation) (d s : Number) → Left (told r d s) Each
+  unfolding ordered orderedIn unequal disjoint disjointOf overlapping overlappingOf resharpened signedOrdered
+  told-leaves-sharpened (Below gap) d s =
+      unless-leaves (ltb (bounds s .hi) (bounds d .lo + gap)) _ Each (λ e. settled-leaves-sharpened (d .bits) (s .bits) _ _)
+  told-leaves-sharpened (SignedBelow gap) d s = turnedBack-leaves-sharpened d s (ordered gap (turned d) (turned s))
+  told-leaves-sharpened (Exchanged r) d s =
+      exchanged-leaves (told r s d) Each (left-map (told r s d) Each (λ u v. Each v u) (λ u v h. (h .1, h .0))
+      (told-leaves-sharpened r s d))
+  told-leaves-sharpened Same d s = equal-leaves-sharpened d s
+  told-leaves-sharpened Different d s = settled-leaves-sharpened (d .bits) (s .bits) _ _
+  told-leaves-sharpened Disjoint d s = disjointBy-leaves-sharpened _ _ (resharpened d) (resharpened s)
+  told-leaves-sharpened Overlapping d s =
+      unless-leaves (eqb (bitAnd (top (resharpened d .bits)) (top (resharpened s .bits))) 0) (settled (resharpened d) (resharpened s)) Each
+      (λ e. settled-leaves-sharpened (d .bits) (s .bits) (d .range) (s .range))
+
+  pub refined-leaves-sharpened : (c : Comparison) (way : Bool) (d s : Number) → Left (refined c way d s) Each
+  refined-leaves-sharpened c way d s = rw (refined-is-told c way d s) (told-leaves-sharpened (relation c way) d s)
+
+-- so some number is left between the ends of each pair
 abbrev pub SomeBounds : Number → Number → Type 0
 SomeBounds u v = Some (bounds u) × Some (bounds v)
 
-settled-leaves-bounds : (p q : Bits) (t w : Range) → Left (settled (sharpened p t) (sharpened q w)) SomeBounds
-settled-leaves-bounds p q t w =
-    settled-leaves (sharpened p t) (sharpened q w) SomeBounds (λ a b. (sharpened-bounds p t a, sharpened-bounds q w b))
-
-equalBy-leaves-bounds : (r : Learnt) (t : Range) → Left (equalBy r t) SomeBounds
-unfolding equalBy
-equalBy-leaves-bounds Nothing t = tt
-equalBy-leaves-bounds (Pair p) t = settled-leaves-bounds p p t t
-
-equal-leaves-bounds : (d s : Number) → Left (equal d s) SomeBounds
-unfolding equal
-equal-leaves-bounds d s = equalBy-leaves-bounds (met (d .bits) (s .bits)) (common (d .range) (s .range))
-
-disjointBy-leaves-bounds : (p q : Learnt) (d s : Number) → Left (disjointBy p q d s) SomeBounds
-unfolding disjointBy
-disjointBy-leaves-bounds Nothing q d s = tt
-disjointBy-leaves-bounds (Pair p) Nothing d s = tt
-disjointBy-leaves-bounds (Pair p) (Pair q) d s = settled-leaves-bounds p q (d .range) (s .range)
-
-turnedBack-leaves-bounds : (d s : Number) (r : Refined) → Left (turnedBack d s r) SomeBounds
-unfolding turnedBack
-turnedBack-leaves-bounds d s Excluded = tt
-turnedBack-leaves-bounds d s (Possible u v) =
-    firsts-leave (equal d (turned u)) (equal s (turned v)) (λ m. Some (bounds m)) (λ n. Some (bounds n))
-    (left-map (equal d (turned u)) SomeBounds (λ m m′. Some (bounds m)) (λ m m′ h. h .0) (equal-leaves-bounds d (turned u)))
-    (left-map (equal s (turned v)) SomeBounds (λ n n′. Some (bounds n)) (λ n n′ h. h .0) (equal-leaves-bounds s (turned v)))
-
-told-leaves-bounds : (r : Relation) (d s : Number) → Left (told r d s) SomeBounds
-unfolding ordered orderedIn unequal disjoint disjointOf overlapping overlappingOf resharpened signedOrdered
-told-leaves-bounds (Below gap) d s =
-    unless-leaves (ltb (bounds s .hi) (bounds d .lo + gap)) _ SomeBounds (λ e. settled-leaves-bounds (d .bits) (s .bits) _ _)
-told-leaves-bounds (SignedBelow gap) d s = turnedBack-leaves-bounds d s (ordered gap (turned d) (turned s))
-told-leaves-bounds (Exchanged r) d s =
-    exchanged-leaves (told r s d) SomeBounds (left-map (told r s d) SomeBounds (λ u v. SomeBounds v u) (λ u v h. (h .1, h .0))
-    (told-leaves-bounds r s d))
-told-leaves-bounds Same d s = equal-leaves-bounds d s
-told-leaves-bounds Different d s = settled-leaves-bounds (d .bits) (s .bits) _ _
-told-leaves-bounds Disjoint d s = disjointBy-leaves-bounds _ _ (resharpened d) (resharpened s)
-told-leaves-bounds Overlapping d s =
-    unless-leaves (eqb (bitAnd (top (resharpened d .bits)) (top (resharpened s .bits))) 0)
-    (settled (resharpened d) (resharpened s)) SomeBounds
-    (λ e. settled-leaves-bounds (d .bits) (s .bits) (d .range) (s .range))
-
 pub refined-leaves-bounds : (c : Comparison) (way : Bool) (d s : Number) → Left (refined c way d s) SomeBounds
-refined-leaves-bounds c way d s = rw (refined-is-told c way d s) (told-leaves-bounds (relation c way) d s)
+refined-leaves-bounds = refined-leaves-sharpened (λ n. Some (bounds n)) sharpened-bounds
 
 -- an operand of a signed order can be moved, and moved back
 record Movable (n : Number) : Type 0 where
@@ -351,7 +358,8 @@ ordered-leaves-movable gap d s gd gs =
     left-map (ordered gap d s) _ (λ u v. Movable u × Movable v)
     (λ u v h.
     (record { form = h .0 .sharper .form-first gd; some = h .1 .0 }, record { form = h .0 .sharper .form-second gs; some = h .1 .1 }))
-    (left-both (ordered gap d s) (OrderLeft gap d s) SomeBounds (ordered-leaves gap d s) (told-leaves-bounds (Below gap) d s))
+    (left-both (ordered gap d s) (OrderLeft gap d s) SomeBounds (ordered-leaves gap d s)
+    (told-leaves-sharpened (λ n. Some (bounds n)) sharpened-bounds (Below gap) d s))
 
 module _ (d′ d : Number) (gd′ : Well 64 (d′ .bits)) (gd : Well 64 (d .bits)) (hd : Narrower d′ d) where
   back-in-order : (u′ u : Number) → Movable u′ → Movable u → Narrower u′ u → LeavesNoMore (equal d′ (turned u′)) (equal d (turned u))

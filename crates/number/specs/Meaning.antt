@@ -57,7 +57,7 @@ abbrev pub Left : Refined → (Number → Number → Type 0) → Type 0
 Left Excluded P = Unit {0}
 Left (Possible d s) P = P d s
 
--- no range on the way is empty: of an operand, of what the operation takes of it, of the result. So it is where each operand has a number
+-- no range on the way is empty: of an operand, of what the operation takes of it, of the result
 pub record NoneEmpty (w : ℕ) (op : Operation) (a b : Number) : Type 0 where
   pub first : a .range .lo ≤ a .range .hi
   pub first-taken : modulo (2 ^ w) a .lo ≤ modulo (2 ^ w) a .hi
