@@ -43,6 +43,7 @@ use Rattle.analysis.specs.Form.{instruction}
 use Rattle.analysis.specs.Judged.{having, withOperand, along, Flow, refuses, flows, apply}
 use Rattle.analysis.specs.Promise.{together, flowing, flow, knownFrom, known}
 use Rattle.analysis.specs.Sharper.{OfNumbers, OfRole, Calculating, SomeResult}
+use Rattle.analysis.proofs.Literal.{along-possible, along-excluded}
 use Rattle.analysis.proofs.Annotated.{instruction-words}
 use Rattle.analysis.proofs.SharperEffects.{size-at-most-8}
 use Rattle.analysis.proofs.Sound.{WordOperand, Words, wide}
@@ -235,11 +236,12 @@ module _ (a : Facts) (h : OperableFacts a) where
   store-operable size off x (Address q m) = tt
 
   along-operable : (d : ℕ) (o : Operand) (r : Refined) → Left r (λ x y. Operable x × Operable y) → OperableComing (along a d o r)
-  unfolding along withOperand having
-  along-operable d o Excluded k = tt
-  along-operable d (Immediate n) (Possible x y) k = operable-set (a .registers) d (Plain x) h (k .0)
+  unfolding withOperand having
+  along-operable d o Excluded k = rw (along-excluded a d o) tt
+  along-operable d (Immediate n) (Possible x y) k = rw (along-possible a d (Immediate n) x y) (operable-set (a .registers) d (Plain x) h (k .0))
   along-operable d (Register r) (Possible x y) k =
-      operable-set (set (a .registers) d (Plain x)) r (Plain y) (operable-set (a .registers) d (Plain x) h (k .0)) (k .1)
+      rw (along-possible a d (Register r) x y)
+      (operable-set (set (a .registers) d (Plain x)) r (Plain y) (operable-set (a .registers) d (Plain x) h (k .0)) (k .1))
 
   told-operable : (w : Width) (c : Comparison) (way : Bool) (m n : Number) → Operable m → Operable n
       → Left (told w c way m n) (λ x y. Operable x × Operable y)

@@ -9,7 +9,6 @@ use native.Mathlib.Nat.{le-trans}
 use native.Mathlib.Omega.{arith}
 use lib.Pow.{pow-pos, pow-mono}
 use lib.Dec.{eqb}
-use borrow.Author.Tests.{leb-true, le-leb}
 use Rattle.word.specs.declared.Operation.{Operation}
 use Rattle.word.specs.declared.Operation.the-variants.{Add, Sub}
 use Rattle.word.specs.declared.Operation.the-variants as operation
@@ -32,7 +31,7 @@ use Rattle.number.specs.declared.Refined.the-variants.{Excluded, Possible}
 use Rattle.number.specs.Meaning.{In, Narrower, NoneEmpty, Left, LeavesNoMore}
 use Rattle.number.specs.Sharpen.{exact, loaded, everything}
 use Rattle.number.specs.Computed.{computed, fits}
-use Rattle.number.proofs.Laws.{exact-in, loaded-in, computed-form, computed-sound, computed-narrower, refined-form, refined32-form, refined-in-order, refined32-in-order}
+use Rattle.number.proofs.Laws.{exact-in, loaded-in, fits-exactly, computed-form, computed-sound, computed-narrower, refined-form, refined32-form, refined-in-order, refined32-in-order}
 use Rattle.analysis.specs.declared.Reason.{Reason}
 use Rattle.analysis.specs.declared.Reason.the-variants.{WritesR10, ReadsUnset, Outside, LeaksAddress}
 use Rattle.analysis.specs.declared.Region.{Region}
@@ -281,9 +280,7 @@ loaded-sharper k′ k l h =
 
 -- what fits where less is known fits
 fits-stays : (n′ n : Number) (size′ size m′ m : ℕ) → Narrower n′ n → size′ ≤ size → m ≤ m′ → fits n size m ≡ true → fits n′ size′ m′ ≡ true
-unfolding fits
-fits-stays n′ n size′ size m′ m h l k t =
-    le-leb (n′ .range .hi + size′) m′ (omega (arith, leb-true (n .range .hi + size) m t, h .range .high))
+fits-stays n′ n size′ size m′ m h l k t = fits-exactly n′ size′ m′ .1 (omega (arith, fits-exactly n size m .0 t, h .range .high))
 
 module _ (a′ a : Facts) (h : SharperFacts a′ a) (R S : ℕ) (longer : R ≤ S) (off : ℕ) (word : off < 2 ^ 64) where
   moved-sharper : (m′ m : Number) → SharperNumber m′ m → NoneEmpty 64 Add m′ (exact off)
