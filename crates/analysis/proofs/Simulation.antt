@@ -258,11 +258,11 @@ module _ (w : World) where
     pub stack-high : w .S ≤ 2 ^ 47
     pub apart : (length (w .rec) ≡ 0) ⊎ ((w .P + length (w .rec) ≤ w .S) ⊎ (w .S + 512 ≤ w .P))
 
-  within-yes : (start len a n : ℕ) → start ≤ a → a + n ≤ start + len → within start len a n ≡ true
+  pub within-yes : (start len a n : ℕ) → start ≤ a → a + n ≤ start + len → within start len a n ≡ true
   unfolding within
   within-yes start len a n p q = rw (le-leb start a p, le-leb (a + n) (start + len) q) refl
 
-  within-no : (start len a n : ℕ) → (a < start) ⊎ (start + len < a + n) → within start len a n ≡ false
+  pub within-no : (start len a n : ℕ) → (a < start) ⊎ (start + len < a + n) → within start len a n ≡ false
   unfolding within
   within-no start len a n (inl h) = rw (lt-leb start a h) refl
   within-no start len a n (inr h) = rw (lt-leb (a + n) (start + len) h) (and-false (leb start a))

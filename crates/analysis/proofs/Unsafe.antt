@@ -1,7 +1,7 @@
 -- That Safe says something: memory can be laid for every record, and programs that fault, compare or report addresses are not safe.
 use mathlib.Core.Path.{_≡_, refl, sym, ap, _∙_, subst}
 use mathlib.Core.Bool.{Bool, true, false, cond}
-use mathlib.Core.Logic.{_⊎_, inl, inr}
+use mathlib.Core.Logic.{_⊎_, inl, inr, ⊎-elim}
 use mathlib.Core.List.{List, [], _∷_, _++_}
 use Prim.Native.Nat.{ℕ, zero, suc, _+_, _-_, _*_, _/_, _%_, _^_, _≤_, _<_}
 use native.Mathlib.Omega.{arith}
@@ -9,14 +9,23 @@ use lib.ListN.{length, getD, replicate, length-replicate}
 use lib.Dec.{leb}
 use borrow.Author.Tests.{le-ltb}
 use Rattle.word.specs.Word.{cut, extend, shiftSigned, alu, moved, compare, readBytes, writeBytes}
+use Rattle.machine.specs.declared.instruction.Size.{Size}
+use Rattle.machine.specs.declared.instruction.Size.the-variants.{One, Four, Eight}
+use Rattle.machine.specs.declared.memory.Loaded.{Loaded}
+use Rattle.machine.specs.declared.memory.Loaded.the-variants.{Value, Nowhere}
+use Rattle.machine.specs.declared.outcome.Cause.{Cause}
 use Rattle.machine.specs.declared.outcome.Outcome.{Outcome}
 use Rattle.machine.specs.declared.outcome.Outcome.the-variants.{Verdict, Fault, Budget, Refused}
 use Rattle.machine.specs.declared.outcome.Cause.the-variants.{Unset, BadAccess}
 use Rattle.machine.specs.Instruction.{fields, only, lookup, withOperand, operations, arithmetic, comparisons, jump, loads, storesOfImm, storesOfSrc, load, storeOfImm, storeOfSrc, byClass, meaning, decode, readsOperand, readsDst, reads, writes}
-use Rattle.machine.specs.Machine.{World, Done, content, held, value, operandValue, put, jumped, bits, bytes, address, within, loaded, afterLoad, afterStore, effect, isNoInstruction, names10, isUnset, anyUnset, obey, step, next, runs, start, badProgram, badRecord, badStack, badAddress, overlap, refused, interpreted}
+use Rattle.machine.specs.Machine as machine
+use Rattle.machine.specs.Machine.{World, State, Content, Holds, Done, content, held, value, operandValue, put, jumped, bits, bytes, address, within, loaded, afterLoad, afterStore, effect, isNoInstruction, names10, isUnset, anyUnset, obey, step, next, runs, start, badProgram, badRecord, badStack, badAddress, overlap, refused, interpreted}
 use Rattle.analysis.specs.Safe.{Laid, Bytes, Answer, Safe}
-use Rattle.analysis.proofs.Theorem.{laid-not-refused}
-use Rattle.analysis.proofs.Programs.{eight, program, X1, X2, X3, K1, low-half-jump, stores-r1}
+use Rattle.analysis.specs.declared.Finding.the-variants.{Accepted}
+use Rattle.analysis.specs.Judged.{judged}
+use Rattle.analysis.proofs.Simulation.{within-yes, within-no}
+use Rattle.analysis.proofs.Theorem.{laid-not-refused, accepted-safe}
+use Rattle.analysis.proofs.Programs.{eight, program, X1, X2, X3, K1, low-half-jump, stores-r1, signed-15, low-half}
 
 record-good : (R : ℕ) → R ≤ 1024 → badRecord R ≡ false
 unfolding badRecord
@@ -92,21 +101,40 @@ blank-bytes zero i = omega arith
 blank-bytes (suc R) zero = omega arith
 blank-bytes (suc R) (suc i) = blank-bytes R i
 
--- the run of a program of good length on a record of zeros
-module _ (ns : List ℕ) (R : ℕ) (small : R ≤ 1024) (good : badProgram (length (program ns)) ≡ false) (w : Laid (length (blank R))) where
+-- the run of a program of good length
+module _ (ns rec : List ℕ) (small : length rec ≤ 1024) (good : badProgram (length (program ns)) ≡ false) (w : Laid (length rec)) where
   there : World
-  there = record { rec = blank R; P = w .P; S = w .S }
+  there = record { rec = rec; P = w .P; S = w .S }
 
-  run-there : (b : ℕ) → interpreted (program ns) (blank R) (w .P) (w .S) (w .before) b ≡ runs (program ns) there b 0 (start there)
+  run-there : (b : ℕ) → interpreted (program ns) rec (w .P) (w .S) (w .before) b ≡ runs (program ns) there b 0 (start there)
   unfolding interpreted there
-  run-there b = rw (laid-not-refused (program ns) (blank R) good (record-good (length (blank R)) (rw (blank-size R) small)) w) refl
+  run-there b = rw (laid-not-refused (program ns) rec good (record-good (length rec) small) w) refl
 
--- two layouts that a program tells from each other refute its safety
+-- two layouts that a program tells from each other on a record of zeros refute its safety
 module _ (ns : List ℕ) (R : ℕ) (small : R ≤ 1024) (good : badProgram (length (program ns)) ≡ false) (safe : Safe (program ns) R) where
+  blank-small : length (blank R) ≤ 1024
+  blank-small = rw (blank-size R) small
+
   runs-alike : (v w : Laid (length (blank R))) (b : ℕ)
-      → runs (program ns) (there ns R small good v) b 0 (start (there ns R small good v)) ≡ runs (program ns) (there ns R small good w) b 0 (start (there ns R small good w))
+      → runs (program ns) (there ns (blank R) blank-small good v) b 0 (start (there ns (blank R) blank-small good v))
+      ≡ runs (program ns) (there ns (blank R) blank-small good w) b 0 (start (there ns (blank R) blank-small good w))
   runs-alike v w b =
-      sym (run-there ns R small good v b) ∙ same-everywhere (program ns) R safe (blank R) (blank-size R) (blank-bytes R) v w b ∙ run-there ns R small good w b
+      sym (run-there ns (blank R) blank-small good v b)
+      ∙ same-everywhere (program ns) R safe (blank R) (blank-size R) (blank-bytes R) v w b
+      ∙ run-there ns (blank R) blank-small good w b
+
+-- memory as `above` lays it, with the record at its lowest
+at-2^20 : List ℕ → World
+at-2^20 rec = record { rec = rec; P = 2 ^ 20 + 0; S = 2 ^ 16 }
+
+-- a record on which a program faults refutes it too
+module _ (ns rec : List ℕ) (small : length rec ≤ 1024) (good : badProgram (length (program ns)) ≡ false) (bytes-only : Bytes rec) where
+  faults-not-safe : (b : ℕ) (c : Cause) (i k : ℕ)
+      → runs (program ns) (at-2^20 rec) b 0 (start (at-2^20 rec)) .outcome ≡ Fault c i k → Safe (program ns) (length rec) → ⊥
+  unfolding there above at-2^20
+  faults-not-safe b c i k e safe =
+      never-faults (program ns) (length rec) safe rec refl bytes-only (above (length rec) 0 (omega arith)) b
+      (subst Faults (sym (ap (λ d. d .outcome) (run-there ns rec small good (above (length rec) 0 (omega arith)) b) ∙ e)) tt)
 
 abbrev verdictIn : Outcome → ℕ
 verdictIn (Verdict v k) = v
@@ -166,10 +194,10 @@ unfolding X3 eight program cut extend shiftSigned alu moved compare readBytes wr
 x3-faults R = refl
 
 pub x3-not-safe : (R : ℕ) → R ≤ 1024 → Safe (program X3) R → ⊥
-unfolding there above X3 eight program badProgram
+unfolding at-2^20 X3 eight program badProgram
 x3-not-safe R small safe =
-    never-faults (program X3) R safe (blank R) (blank-size R) (blank-bytes R) (above (length (blank R)) 0 (omega arith)) 1
-    (subst Faults (sym (ap (λ d. d .outcome) (run-there X3 R small refl (above (length (blank R)) 0 (omega arith)) 1) ∙ x3-faults R)) tt)
+    faults-not-safe X3 (blank R) (rw (blank-size R) small) refl (blank-bytes R) 1 Unset 0 0 (x3-faults R)
+    (subst (Safe (program X3)) (sym (blank-size R)) safe)
 
 -- ---- K1 with a record of 71 bytes faults if byte 0 is 255
 
@@ -194,30 +222,129 @@ pub k1-not-safe-with-71 : Safe (program K1) 71 → ⊥
 k1-not-safe-with-71 safe =
     never-faults (program K1) 71 safe full-byte full-byte-size full-byte-bytes (above (length full-byte) 0 (omega arith)) 9 (subst Faults (sym k1-faults) tt)
 
--- ---- a probe that tests the low half of a number and uses all of it faults if the upper half is not 0, with the longest record too
+-- ---- loads from a record at 2 ^ 20 with the stack at 2 ^ 16, whatever the record's length
 
-upper-bit : List ℕ
-upper-bit = 0 ∷ 0 ∷ 0 ∷ 0 ∷ 1 ∷ blank 1019
+at-first : (rec : List ℕ) (z : Size) → bytes z ≤ length rec → loaded (at-2^20 rec) (replicate 512 0) (2 ^ 20) z ≡ Value (readBytes (bytes z) rec 0)
+unfolding loaded at-2^20
+at-first rec z l = rw (within-yes (at-2^20 rec) (2 ^ 20 + 0) (length rec) (2 ^ 20) (bytes z) (omega arith) (omega arith)) refl
 
-upper-bit-bytes : Bytes upper-bit
+nowhere : (rec : List ℕ) (a : ℕ) → length rec ≤ 1024 → 2 ^ 16 + 512 ≤ a → (a < 2 ^ 20) ⊎ (2 ^ 20 + 1024 ≤ a)
+    → loaded (at-2^20 rec) (replicate 512 0) a One ≡ Nowhere
+unfolding loaded bytes at-2^20
+nowhere rec a l h o =
+    rw (within-no (at-2^20 rec) (2 ^ 20 + 0) (length rec) a 1 (⊎-elim (λ p. inl (omega arith)) (λ p. inr (omega arith)) o))
+    (rw (within-no (at-2^20 rec) (2 ^ 16) 512 a 1 (inr (omega arith))) refl)
+
+-- the state before the instruction at index i, with what r1, r2 and r3 have
+before-index : ℕ → ℕ → ℕ → Content → State
+before-index i x y c =
+    record {
+      registers = machine.Unset ∷ Holds x ∷ Holds y ∷ c ∷ machine.Unset ∷ machine.Unset ∷ machine.Unset ∷ machine.Unset ∷ machine.Unset
+          ∷ machine.Unset ∷ Holds (2 ^ 16 + 512) ∷ [];
+      stack = replicate 512 0;
+      index = i;
+    }
+
+-- ---- a record whose first 8 bytes are 2 ^ 32, and one whose first 4 are -2
+
+upper-bit : ℕ → List ℕ
+upper-bit k = 0 ∷ 0 ∷ 0 ∷ 0 ∷ 1 ∷ 0 ∷ 0 ∷ 0 ∷ blank k
+
+upper-bit-bytes : (k : ℕ) → Bytes (upper-bit k)
 unfolding upper-bit
-upper-bit-bytes zero = omega arith
-upper-bit-bytes (suc zero) = omega arith
-upper-bit-bytes (suc (suc zero)) = omega arith
-upper-bit-bytes (suc (suc (suc zero))) = omega arith
-upper-bit-bytes (suc (suc (suc (suc zero)))) = omega arith
-upper-bit-bytes (suc (suc (suc (suc (suc i))))) = blank-bytes 1019 i
+upper-bit-bytes k zero = omega arith
+upper-bit-bytes k (suc zero) = omega arith
+upper-bit-bytes k (suc (suc zero)) = omega arith
+upper-bit-bytes k (suc (suc (suc zero))) = omega arith
+upper-bit-bytes k (suc (suc (suc (suc zero)))) = omega arith
+upper-bit-bytes k (suc (suc (suc (suc (suc zero))))) = omega arith
+upper-bit-bytes k (suc (suc (suc (suc (suc (suc zero)))))) = omega arith
+upper-bit-bytes k (suc (suc (suc (suc (suc (suc (suc zero))))))) = omega arith
+upper-bit-bytes k (suc (suc (suc (suc (suc (suc (suc (suc i)))))))) = blank-bytes k i
 
-upper-bit-size : length upper-bit ≡ 1024
-unfolding upper-bit blank
-upper-bit-size = refl
+upper-bit-size : (k : ℕ) → length (upper-bit k) ≡ 8 + k
+unfolding upper-bit
+upper-bit-size k = omega (arith, blank-size k)
 
-low-half-jump-faults : let w = above (length upper-bit) 0 (omega arith) in
-    interpreted (program low-half-jump) upper-bit (w .P) (w .S) (w .before) 7 .outcome ≡ Fault BadAccess 3 3
-unfolding above upper-bit blank low-half-jump eight program cut extend shiftSigned alu moved compare readBytes writeBytes fields only lookup withOperand operations arithmetic comparisons jump loads storesOfImm storesOfSrc load storeOfImm storeOfSrc byClass meaning decode readsOperand readsDst reads writes content held value operandValue put jumped bits bytes address within loaded afterLoad afterStore effect isNoInstruction names10 isUnset anyUnset obey step next runs start badProgram badRecord badStack badAddress overlap refused interpreted
-low-half-jump-faults = refl
+negative : ℕ → List ℕ
+negative k = 254 ∷ 255 ∷ 255 ∷ 255 ∷ blank k
 
-pub low-half-jump-not-safe : Safe (program low-half-jump) 1024 → ⊥
-low-half-jump-not-safe safe =
-    never-faults (program low-half-jump) 1024 safe upper-bit upper-bit-size upper-bit-bytes (above (length upper-bit) 0 (omega arith)) 7
-    (subst Faults (sym low-half-jump-faults) tt)
+negative-bytes : (k : ℕ) → Bytes (negative k)
+unfolding negative
+negative-bytes k zero = omega arith
+negative-bytes k (suc zero) = omega arith
+negative-bytes k (suc (suc zero)) = omega arith
+negative-bytes k (suc (suc (suc zero))) = omega arith
+negative-bytes k (suc (suc (suc (suc i)))) = blank-bytes k i
+
+negative-size : (k : ℕ) → length (negative k) ≡ 4 + k
+unfolding negative
+negative-size k = omega (arith, blank-size k)
+
+-- ---- probes that test less than they use fault with every record that they can read
+
+low-half-faults : (k : ℕ) → 8 + k ≤ 1024
+    → let w = at-2^20 (upper-bit k) in runs (program low-half) w 5 0 (start w) .outcome ≡ Fault BadAccess 4 4
+unfolding at-2^20 before-index upper-bit low-half eight program cut extend shiftSigned alu moved compare readBytes fields only lookup withOperand operations arithmetic comparisons jump loads storesOfImm storesOfSrc load storeOfImm storeOfSrc byClass meaning decode readsOperand readsDst reads writes content held value operandValue put jumped bits bytes address afterLoad effect isNoInstruction names10 isUnset anyUnset obey step next runs start
+low-half-faults k small =
+    let w = at-2^20 (upper-bit k) in
+    let t = before-index 4 (2 ^ 32 + 2 ^ 20) (2 ^ 32) (Holds 0) in
+    ap (λ l. next (runs (program low-half) w 4) 0 (start w) (afterLoad (start w) 2 l) .outcome)
+    (at-first (upper-bit k) Eight (omega (arith, upper-bit-size k)))
+    ∙ ap (λ l. next (runs (program low-half) w 0) 4 t (afterLoad t 0 l) .outcome)
+    (nowhere (upper-bit k) (2 ^ 32 + 2 ^ 20 + 1) (omega (arith, upper-bit-size k)) (omega arith) (inr (omega arith)))
+
+low-half-jump-faults : (k : ℕ) → 8 + k ≤ 1024
+    → let w = at-2^20 (upper-bit k) in runs (program low-half-jump) w 4 0 (start w) .outcome ≡ Fault BadAccess 3 3
+unfolding at-2^20 before-index upper-bit low-half-jump eight program cut extend shiftSigned alu moved compare readBytes fields only lookup withOperand operations arithmetic comparisons jump loads storesOfImm storesOfSrc load storeOfImm storeOfSrc byClass meaning decode readsOperand readsDst reads writes content held value operandValue put jumped bits bytes address afterLoad effect isNoInstruction names10 isUnset anyUnset obey step next runs start
+low-half-jump-faults k small =
+    let w = at-2^20 (upper-bit k) in
+    let t = before-index 3 (2 ^ 32 + 2 ^ 20) (2 ^ 32) machine.Unset in
+    ap (λ l. next (runs (program low-half-jump) w 3) 0 (start w) (afterLoad (start w) 2 l) .outcome)
+    (at-first (upper-bit k) Eight (omega (arith, upper-bit-size k)))
+    ∙ ap (λ l. next (runs (program low-half-jump) w 0) 3 t (afterLoad t 0 l) .outcome)
+    (nowhere (upper-bit k) (2 ^ 32 + 2 ^ 20 + 1) (omega (arith, upper-bit-size k)) (omega arith) (inr (omega arith)))
+
+signed-15-faults : (k : ℕ) → 4 + k ≤ 1024
+    → let w = at-2^20 (negative k) in runs (program signed-15) w 6 0 (start w) .outcome ≡ Fault BadAccess 5 5
+unfolding at-2^20 before-index negative signed-15 eight program cut extend shiftSigned alu moved compare readBytes fields only lookup withOperand operations arithmetic comparisons jump loads storesOfImm storesOfSrc load storeOfImm storeOfSrc byClass meaning decode readsOperand readsDst reads writes content held value operandValue put jumped bits bytes address afterLoad effect isNoInstruction names10 isUnset anyUnset obey step next runs start
+signed-15-faults k small =
+    let w = at-2^20 (negative k) in
+    let t = before-index 5 (2 ^ 20 - 2) (2 ^ 64 - 2) machine.Unset in
+    ap (λ l. next (runs (program signed-15) w 5) 0 (start w) (afterLoad (start w) 2 l) .outcome)
+    (at-first (negative k) Four (omega (arith, negative-size k)))
+    ∙ ap (λ l. next (runs (program signed-15) w 0) 5 t (afterLoad t 0 l) .outcome)
+    (nowhere (negative k) (2 ^ 20 - 1) (omega (arith, negative-size k)) (omega arith) (inl (omega arith)))
+
+pub low-half-not-safe : (R : ℕ) → 8 ≤ R → R ≤ 1024 → Safe (program low-half) R → ⊥
+unfolding at-2^20 low-half eight program badProgram
+low-half-not-safe R long small safe =
+    let k = R - 8 in
+    let e : length (upper-bit k) ≡ R = upper-bit-size k ∙ omega arith in
+    faults-not-safe low-half (upper-bit k) (rw e small) refl (upper-bit-bytes k) 5 BadAccess 4 4
+    (low-half-faults k (omega arith)) (rw e safe)
+
+pub low-half-refused : (R : ℕ) → 8 ≤ R → R ≤ 1024 → judged (program low-half) R .finding ≡ Accepted → ⊥
+low-half-refused R long small e = low-half-not-safe R long small (accepted-safe (program low-half) R e)
+
+pub low-half-jump-not-safe : (R : ℕ) → 8 ≤ R → R ≤ 1024 → Safe (program low-half-jump) R → ⊥
+unfolding at-2^20 low-half-jump eight program badProgram
+low-half-jump-not-safe R long small safe =
+    let k = R - 8 in
+    let e : length (upper-bit k) ≡ R = upper-bit-size k ∙ omega arith in
+    faults-not-safe low-half-jump (upper-bit k) (rw e small) refl (upper-bit-bytes k) 4 BadAccess 3 3
+    (low-half-jump-faults k (omega arith)) (rw e safe)
+
+pub low-half-jump-refused : (R : ℕ) → 8 ≤ R → R ≤ 1024 → judged (program low-half-jump) R .finding ≡ Accepted → ⊥
+low-half-jump-refused R long small e = low-half-jump-not-safe R long small (accepted-safe (program low-half-jump) R e)
+
+pub signed-15-not-safe : (R : ℕ) → 4 ≤ R → R ≤ 1024 → Safe (program signed-15) R → ⊥
+unfolding at-2^20 signed-15 eight program badProgram
+signed-15-not-safe R long small safe =
+    let k = R - 4 in
+    let e : length (negative k) ≡ R = negative-size k ∙ omega arith in
+    faults-not-safe signed-15 (negative k) (rw e small) refl (negative-bytes k) 6 BadAccess 5 5
+    (signed-15-faults k (omega arith)) (rw e safe)
+
+pub signed-15-refused : (R : ℕ) → 4 ≤ R → R ≤ 1024 → judged (program signed-15) R .finding ≡ Accepted → ⊥
+signed-15-refused R long small e = signed-15-not-safe R long small (accepted-safe (program signed-15) R e)
