@@ -8,12 +8,16 @@ use Rattle.word.specs.Word.{bit, cut, alu, shiftSigned}
 use Rattle.word.specs.declared.Operation.the-variants.{Add, Sub, Mul, Or, And, Rsh, Neg, Mod}
 use Rattle.known_bits.specs.Formula.{calculated, formula, low, sum, difference, digits, upTo, fromBit, among, highestProduct, productMask, placed, withDigit, lowDigits, shiftAndAdd, known, product, power, quotient, highestRest, rest, shiftedBy, joined, shifted}
 use Rattle.number.specs.declared.Range.{Range}
+use Rattle.number.specs.declared.Number.{Number}
 use Rattle.number.specs.Sharpen.{narrowed, stillUnknown, learnt, sharpened, just, exact, everything, loaded, joinedRange, joinedNumber}
 use Rattle.number.specs.Ranges.{straight, crossed, sumRange, differenceRange, productRange, quotientRange, sameQuotient, restRange, longest, leftRange, signedRightRange, ranged}
 use Rattle.number.specs.Computed.{block, modulo, second, computedRange, computed, fits}
 
 abbrev ends : ℕ → ℕ → Range
 ends l h = record { lo = l; hi = h }
+
+abbrev number : ℕ → ℕ → ℕ → ℕ → Number
+number value mask l h = record { bits = record { value = value; mask = mask }; range = ends l h }
 
 record Vectors : Type 0 where
   -- byte * 24 + 3
@@ -38,6 +42,12 @@ record Vectors : Type 0 where
   shifted-right : computed 64 Rsh (loaded 4) (exact 28) .range ≡ ends 0 15
   negative : computed 32 Neg (computed 32 Or (loaded 1) (exact 1)) (exact 0) .range ≡ ends (2 ^ 32 - 255) (2 ^ 32 - 1)
   join : joinedNumber (exact 3) (exact 12) ≡ record { bits = record { value = 0; mask = 15 }; range = ends 3 12 }
+  -- 112, 120, 240 or 248, and 112 or 240, from 113 to 129, less 112; the second is empty, since no such number is there
+  some-left : computed 64 Sub (number 112 136 113 129) (exact 112) ≡ number 0 8 1 8
+  none-left : computed 64 Sub (number 112 128 113 129) (exact 112) ≡ number 0 0 1 0
+  -- so that less is told where more is known, and that no range is empty has to be asked
+  one-less : computed 64 Sub (number 0 8 1 8) (exact 1) ≡ exact 7
+  one-less-of-none : computed 64 Sub (number 0 0 1 0) (exact 1) ≡ exact (2 ^ 64 - 1)
   reaches-the-limit : fits (loaded 1) 8 263 ≡ true
   passes-the-limit : fits (loaded 1) 8 262 ≡ false
 
@@ -61,6 +71,10 @@ vectors =
       shifted-right = refl;
       negative = refl;
       join = refl;
+      some-left = refl;
+      none-left = refl;
+      one-less = refl;
+      one-less-of-none = refl;
       reaches-the-limit = refl;
       passes-the-limit = refl;
     }
