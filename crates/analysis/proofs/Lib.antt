@@ -10,6 +10,7 @@ pub mod Meaning
 pub mod Paths
 pub mod Programs
 pub mod Promised
+pub mod Reasons
 pub mod Refusing
 pub mod Running
 pub mod Sentences
