@@ -11,6 +11,7 @@ pub mod OperableFacts
 pub mod Paths
 pub mod Programs
 pub mod Promised
+pub mod Reasons
 pub mod Refusing
 pub mod Running
 pub mod Sentences

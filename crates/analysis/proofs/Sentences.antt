@@ -26,7 +26,7 @@ use Rattle.number.specs.Computed.{computed}
 use Rattle.number.proofs.Laws.{fits-exactly, fits-not, all-demanded}
 use Rattle.analysis.specs.declared.Region.{Region}
 use Rattle.analysis.specs.declared.Region.the-variants.{Record, Stack}
-use Rattle.analysis.specs.declared.Gone.the-variants.{Never}
+use Rattle.analysis.specs.declared.Gone.the-variants.{Never, Mixed}
 use Rattle.analysis.specs.declared.Value.{Value}
 use Rattle.analysis.specs.declared.Value.the-variants.{Unusable, Plain, Address}
 use Rattle.analysis.specs.declared.Effect.{Effect}
@@ -37,6 +37,7 @@ use Rattle.analysis.specs.Form.{instruction}
 use Rattle.analysis.specs.Judged.{having, withOperand, along, apply}
 use Rattle.analysis.specs.Promise.{known, WayOut, OfArithmetic, OfMemory, OfWays, OfRegisters, Sentences}
 use Rattle.analysis.proofs.Literal.{along-possible, along-excluded}
+use Rattle.analysis.proofs.Reasons.{refusals-told}
 use Rattle.analysis.proofs.Eleven.{Eleven, known-eleven}
 
 -- ---- arithmetic
@@ -117,7 +118,7 @@ joined-values-at (u ∷ us) (v ∷ vs) zero e = refl
 joined-values-at (u ∷ us) (v ∷ vs) (suc r) e = joined-values-at us vs r (omega arith)
 
 registers-told : (a : Facts) → OfRegisters a
-unfolding valueOf operandOf joinedFacts joinedValue sameRegion
+unfolding valueOf operandOf joinedFacts joinedValue joinedGone sameRegion
 registers-told a =
     record {
       written = having-written a;
@@ -127,8 +128,25 @@ registers-told a =
       joins = λ b e r. joined-values-at (a .registers) (b .registers) r e;
       numbers-join = λ x y. refl;
       offsets-join = same;
+      unset-joins = unset;
+      mixed-joins = mixed;
+      kinds-mix = λ p x y. (refl, refl);
+      regions-mix = λ x y. (refl, refl);
     }
   where
+    unset : (v : Value) → (joinedValue (Unusable Never) v ≡ Unusable Never) × (joinedValue v (Unusable Never) ≡ Unusable Never)
+    unset (Unusable Never) = (refl, refl)
+    unset (Unusable Mixed) = (refl, refl)
+    unset (Plain x) = (refl, refl)
+    unset (Address p x) = (refl, refl)
+
+    mixed : (v : Value) → ¬ (v ≡ Unusable Never)
+        → (joinedValue (Unusable Mixed) v ≡ Unusable Mixed) × (joinedValue v (Unusable Mixed) ≡ Unusable Mixed)
+    mixed (Unusable Never) n = absurd (n refl)
+    mixed (Unusable Mixed) n = (refl, refl)
+    mixed (Plain x) n = (refl, refl)
+    mixed (Address p x) n = (refl, refl)
+
     same : (p : Region) (x y : Number) → joinedValue (Address p x) (Address p y) ≡ Address p (joinedNumber x y)
     same Record x y = refl
     same Stack x y = refl
@@ -178,6 +196,7 @@ sentences-told =
     record {
       arithmetic = arithmetic-told;
       memory = memory-told;
+      refusals = refusals-told;
       ways = ways-told;
       registers = registers-told;
       r1-is-the-record = refl;

@@ -3,7 +3,7 @@
 -- the lowest index that refuses what is known there, and accepted if there is none. What flows out of an instruction is held to sentences.
 -- And little work is done.
 use mathlib.Core.Path.{_≡_}
-use mathlib.Core.Logic.{_↔_}
+use mathlib.Core.Logic.{_⊎_, _↔_}
 use mathlib.Core.Bool.{Bool, true, false, cond}
 use mathlib.Core.List.{List}
 use mathlib.Core.Option.{Option, none, some}
@@ -29,14 +29,16 @@ use Rattle.number.specs.Compare.{refined}
 use Rattle.number.specs.Halves.{refined32}
 use Rattle.number.specs.Demanded.{Demanded}
 use Rattle.analysis.specs.declared.Reason.{Reason}
-use Rattle.analysis.specs.declared.Reason.the-variants.{BadLength, LongRecord, Outside, DeadCode}
+use Rattle.analysis.specs.declared.Reason.the-variants.{BadLength, LongRecord, ReadsUnset, Outside, LeaksAddress, DeadCode}
 use Rattle.analysis.specs.declared.Finding.{Finding}
 use Rattle.analysis.specs.declared.Finding.the-variants.{Accepted, Refused}
 use Rattle.analysis.specs.declared.Judged.{Judged}
 use Rattle.analysis.specs.declared.Region.{Region}
 use Rattle.analysis.specs.declared.Region.the-variants.{Record, Stack}
+use Rattle.analysis.specs.declared.Gone.the-variants.{Never, Mixed}
 use Rattle.analysis.specs.declared.Value.{Value}
-use Rattle.analysis.specs.declared.Value.the-variants.{Plain, Address}
+use Rattle.analysis.specs.declared.Value.the-variants.{Unusable, Plain, Address}
+use Rattle.analysis.specs.declared.Effect.{Effect}
 use Rattle.analysis.specs.declared.Effect.the-variants.{Refuse, Put, Keep, Stop}
 use Rattle.analysis.specs.Values.{Facts, valueOf, operandOf, startFacts, joinedValue, joinedFacts}
 use Rattle.analysis.specs.Effects.{told, effect}
@@ -142,6 +144,58 @@ pub record OfMemory (R i : ℕ) (a : Facts) (z : Size) (o : Number) (off : ℕ) 
   pub store-into-stack : (d : ℕ) (s : Operand) (n : Number) → valueOf a d ≡ Address Stack o → operandOf a s ≡ Plain n
       → computed 64 Add o (exact off) .range .hi + bytes z ≤ 512 → effect R i a (Store z d off s) ≡ Keep
 
+-- ---- why an instruction is refused: 7 (unset) comes before 9 (address), and 9 before 8 (access)
+
+-- what reads x and y is refused if one of them may not be used
+pub record OfReading (x y : Value) (e : Effect) : Type 0 where
+  pub first-unset : x ≡ Unusable Never → e ≡ Refuse ReadsUnset
+  pub second-unset : y ≡ Unusable Never → e ≡ Refuse ReadsUnset
+  pub first-mixed : x ≡ Unusable Mixed → ¬ (y ≡ Unusable Never) → e ≡ Refuse LeaksAddress
+  pub second-mixed : y ≡ Unusable Mixed → ¬ (x ≡ Unusable Never) → e ≡ Refuse LeaksAddress
+
+abbrev pub Usable : Value → Type 0
+Usable (Unusable g) = ⊥
+Usable (Plain n) = Unit {0}
+Usable (Address p o) = Unit {0}
+
+abbrev pub IsAddress : Value → Type 0
+IsAddress (Unusable g) = ⊥
+IsAddress (Plain n) = ⊥
+IsAddress (Address p o) = Unit {0}
+
+-- all but MOV read both operands; all but 64-bit MOV, ADD and SUB of a number refuse an address
+pub record OfRefusals (R i : ℕ) (a : Facts) : Type 0 where
+  pub calculating-reads : (w : Width) (op : Operation) (d : ℕ) (s : Operand) → ¬ (op ≡ Mov)
+      → OfReading (valueOf a d) (operandOf a s) (effect R i a (Alu w op d s))
+  pub moving-reads : (w : Width) (d : ℕ) (s : Operand) → OfReading (operandOf a s) (operandOf a s) (effect R i a (Alu w Mov d s))
+  pub negating-reads : (w : Width) (d : ℕ) → OfReading (valueOf a d) (valueOf a d) (effect R i a (Neg w d))
+  pub jumping-reads : (w : Width) (c : Comparison) (d : ℕ) (s : Operand) (off : ℕ)
+      → OfReading (valueOf a d) (operandOf a s) (effect R i a (Jump w c d s off))
+  pub returning-reads : OfReading (valueOf a 0) (valueOf a 0) (effect R i a Exit)
+  pub loading-reads : (z : Size) (d s off : ℕ) → OfReading (valueOf a s) (valueOf a s) (effect R i a (Load z d s off))
+  pub storing-reads : (z : Size) (d off : ℕ) (s : Operand) → OfReading (valueOf a d) (operandOf a s) (effect R i a (Store z d off s))
+  pub address-calculated-with : (w : Width) (op : Operation) (d : ℕ) (s : Operand) → ¬ (op ≡ Mov) → (w ≡ Short) ⊎ (¬ (op ≡ Add) × ¬ (op ≡ Sub))
+      → Usable (valueOf a d) → Usable (operandOf a s) → IsAddress (valueOf a d) ⊎ IsAddress (operandOf a s)
+      → effect R i a (Alu w op d s) ≡ Refuse LeaksAddress
+  pub addresses-added : (d : ℕ) (s : Operand) → IsAddress (valueOf a d) → IsAddress (operandOf a s)
+      → effect R i a (Alu Long Add d s) ≡ Refuse LeaksAddress
+  pub address-subtracted : (d : ℕ) (s : Operand) → Usable (valueOf a d) → IsAddress (operandOf a s)
+      → effect R i a (Alu Long Sub d s) ≡ Refuse LeaksAddress
+  pub address-cut : (d : ℕ) (s : Operand) → IsAddress (operandOf a s) → effect R i a (Alu Short Mov d s) ≡ Refuse LeaksAddress
+  pub address-negated : (w : Width) (d : ℕ) → IsAddress (valueOf a d) → effect R i a (Neg w d) ≡ Refuse LeaksAddress
+  pub address-compared : (w : Width) (c : Comparison) (d : ℕ) (s : Operand) (off : ℕ) → Usable (valueOf a d) → Usable (operandOf a s)
+      → IsAddress (valueOf a d) ⊎ IsAddress (operandOf a s) → effect R i a (Jump w c d s off) ≡ Refuse LeaksAddress
+  pub address-returned : IsAddress (valueOf a 0) → effect R i a Exit ≡ Refuse LeaksAddress
+  pub address-stored : (z : Size) (d off : ℕ) (s : Operand) → Usable (valueOf a d) → IsAddress (operandOf a s)
+      → effect R i a (Store z d off s) ≡ Refuse LeaksAddress
+  pub load-at-number : (z : Size) (d s off : ℕ) (x : Number) → valueOf a s ≡ Plain x → effect R i a (Load z d s off) ≡ Refuse Outside
+  pub store-at-number : (z : Size) (d off : ℕ) (s : Operand) (x n : Number) → valueOf a d ≡ Plain x → operandOf a s ≡ Plain n
+      → effect R i a (Store z d off s) ≡ Refuse Outside
+  pub store-into-record : (z : Size) (d off : ℕ) (s : Operand) (o n : Number) → valueOf a d ≡ Address Record o → operandOf a s ≡ Plain n
+      → effect R i a (Store z d off s) ≡ Refuse Outside
+  pub store-past-stack : (z : Size) (d off : ℕ) (s : Operand) (o n : Number) → valueOf a d ≡ Address Stack o → operandOf a s ≡ Plain n
+      → 512 < computed 64 Add o (exact off) .range .hi + bytes z → effect R i a (Store z d off s) ≡ Refuse Outside
+
 -- which ways lead out, and with what
 pub record OfWays (R i : ℕ) (a : Facts) : Type 0 where
   pub put-flows : (d : ℕ) (v : Value) → apply a (Put d v) ≡ flows (some (having a d v)) none 0
@@ -166,11 +220,20 @@ pub record OfRegisters (a : Facts) : Type 0 where
   pub joins : (b : Facts) → length (a .registers) ≡ length (b .registers) → (r : ℕ) → valueOf (joinedFacts a b) r ≡ joinedValue (valueOf a r) (valueOf b r)
   pub numbers-join : (x y : Number) → joinedValue (Plain x) (Plain y) ≡ Plain (joinedNumber x y)
   pub offsets-join : (p : Region) (x y : Number) → joinedValue (Address p x) (Address p y) ≡ Address p (joinedNumber x y)
+  -- what is unset on either path is unset; a number and an address mix, and so do addresses into both
+  pub unset-joins : (v : Value) → (joinedValue (Unusable Never) v ≡ Unusable Never) × (joinedValue v (Unusable Never) ≡ Unusable Never)
+  pub mixed-joins : (v : Value) → ¬ (v ≡ Unusable Never)
+      → (joinedValue (Unusable Mixed) v ≡ Unusable Mixed) × (joinedValue v (Unusable Mixed) ≡ Unusable Mixed)
+  pub kinds-mix : (p : Region) (x y : Number)
+      → (joinedValue (Plain x) (Address p y) ≡ Unusable Mixed) × (joinedValue (Address p x) (Plain y) ≡ Unusable Mixed)
+  pub regions-mix : (x y : Number)
+      → (joinedValue (Address Record x) (Address Stack y) ≡ Unusable Mixed) × (joinedValue (Address Stack x) (Address Record y) ≡ Unusable Mixed)
 
 -- all of it, with what is demanded of Numbers
 pub record Sentences : Type 0 where
   pub arithmetic : (R i : ℕ) (a : Facts) (d : ℕ) (s : Operand) → eqb d 10 ≡ false → OfArithmetic R i a d s
   pub memory : (R i : ℕ) (a : Facts) (z : Size) (o : Number) (off : ℕ) → OfMemory R i a z o off
+  pub refusals : (R i : ℕ) (a : Facts) → OfRefusals R i a
   pub ways : (R i : ℕ) (a : Facts) → OfWays R i a
   pub registers : (a : Facts) → OfRegisters a
   pub r1-is-the-record : valueOf startFacts 1 ≡ Address Record (exact 0)

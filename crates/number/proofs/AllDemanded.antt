@@ -6,6 +6,7 @@ use Rattle.word.specs.declared.Comparison.{Comparison}
 use Rattle.known_bits.specs.KnownBits.{Well}
 use Rattle.known_bits.proofs.Computing.{calculated-computed}
 use Rattle.known_bits.proofs.ProductsWithin.{product-within-shift-and-add, product-of-multiples}
+use Rattle.known_bits.specs.Formula.{among}
 use Rattle.number.specs.declared.Range.{Range}
 use Rattle.number.specs.declared.Number.{Number}
 use Rattle.number.specs.Sharpen.{just, exact, everything, loaded}
@@ -13,6 +14,8 @@ use Rattle.number.specs.Demanded.{OfOperations, LeastRanges, OfMemory, O
 use Rattle.number.proofs.AgainstKnown.{excluded-if-none-goes, refined-tightest, set-not-taken-clears, refined-exact-excluded}
 use Rattle.number.proofs.Compare.{refined-sound, refined-narrower}
 use Rattle.number.proofs.Computing.{computed-sound, computed-exact, computed-bits-within, computed-range-within, fits-exactly}
+use Rattle.number.proofs.BothOperands.{both-told}
+use Rattle.number.proofs.Ends.{ranges-are, cuts-are, sharpening-is}
 use Rattle.number.proofs.Exclusion.{excluded-by-ranges, excluded-by-bits}
 use Rattle.number.proofs.Halves.{refined32-sound, refined32-narrower, refined32-upper, refined32-exact-excluded}
 use Rattle.number.proofs.HalvesAgainstKnown.{excluded32-if-none-goes, refined32-tightest}
@@ -51,8 +54,8 @@ least-ranges a b na nb =
     }
 
 memory : OfMemory
-unfolding loaded everything exact just
-memory = record { loaded-range = λ k. refl; exact-range = λ n. refl; fits-exactly = fits-exactly }
+unfolding loaded everything among exact just
+memory = record { loaded-range = λ k. refl; loaded-bits = λ k. refl; exact-range = λ n. refl; exact-bits = λ n. refl; fits-exactly = fits-exactly }
 
 joins : (a b : Number) → OfJoins a b
 joins a b = record { covers-left = joined-covers-left a b; covers-right = joined-covers-right a b; range = joined-range-is a b; bits = joined-bits-best a b }
@@ -89,10 +92,14 @@ pub all-demanded : Demanded
 all-demanded =
     record {
       operations = operations;
+      ranges = ranges-are;
+      cuts = cuts-are;
+      sharpening = sharpening-is;
       least-ranges = least-ranges;
       memory = memory;
       joins = joins;
       jumps = jumps;
+      both = both-told;
       low-halves = low-halves;
       jset = jset;
     }

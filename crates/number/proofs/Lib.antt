@@ -1,10 +1,12 @@
 pub mod AgainstKnown
 pub mod AllDemanded
+pub mod BothOperands
 pub mod Cases
 pub mod Compare
 pub mod CompareVectors
 pub mod ComputedInOrder
 pub mod Computing
+pub mod Ends
 pub mod Equality
 pub mod Exclusion
 pub mod HalfBits

@@ -43,7 +43,7 @@ module _ (n : Number) where
 
 -- ---- bits that two numbers share
 -- x shares no bit with y, and so none with what y is known to have
-none-shared-with-value : (q : Bits) → Well 64 q → (x y : ℕ) → x < 2 ^ 64 → Mem 64 q y → bitAnd x y ≡ 0 → bitAnd x (q .value) ≡ 0
+pub none-shared-with-value : (q : Bits) → Well 64 q → (x y : ℕ) → x < 2 ^ 64 → Mem 64 q y → bitAnd x y ≡ 0 → bitAnd x (q .value) ≡ 0
 none-shared-with-value q g x y hx m e =
     ext 64 _ 0 (and-lt 64 x (q .value) hx (g .value-fits)) (pow-pos 64)
     (λ k l. omega (arith, bit-zero k, bit-and k x (q .value), bit-and k x y, ap (bit k) e, mem-low 64 q g y m k l))

@@ -99,7 +99,7 @@ sum-form a =
     packed-well 64 (lowest a) _ (sum-fits _ _)
     (spread-fits 64 0 (lowest a) (highest a) (cut 64 (a .mask)) (cut 64 0) (sum-fits _ _) (sum-fits _ _) (cut-below 64 (a .mask)) (cut-below 64 0))
 
-turned-form : (n : Number) → Well 64 (turned n .bits)
+pub turned-form : (n : Number) → Well 64 (turned n .bits)
 unfolding turned computed exact
 turned-form n = sharpened-form _ _ (sum-form (n .bits))
 

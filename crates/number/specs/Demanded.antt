@@ -4,14 +4,15 @@ use mathlib.Core.Path.{_≡_}
 use mathlib.Core.Bool.{Bool, true, false, not}
 use mathlib.Core.Logic.{_⊎_, _↔_}
 use Prim.Native.Nat.{ℕ, _+_, _-_, _*_, _/_, _%_, _^_, _≤_, _<_, min, max}
-use lib.Bits.{bitAnd}
-use Rattle.word.specs.Word.{cut, alu, compare}
+use lib.Bits.{bitAnd, bitXor}
+use Rattle.word.specs.Word.{bit, cut, alu, compare}
 use Rattle.word.specs.declared.Operation.{Operation}
-use Rattle.word.specs.declared.Operation.the-variants.{Add, Sub, Mul, Div, Lsh, Rsh, Mod, And}
+use Rattle.word.specs.declared.Operation.the-variants.{Add, Sub, Mul, Div, Or, And, Lsh, Rsh, Neg, Mod, Xor, Mov, Arsh}
 use Rattle.word.specs.declared.Comparison.{Comparison}
-use Rattle.word.specs.declared.Comparison.the-variants.{Eq, Ne, Gt, Ge, Lt, Le, Set}
+use Rattle.word.specs.declared.Comparison.the-variants.{Eq, Ne, Gt, Ge, Lt, Le, Set, Sgt, Sge, Slt, Sle}
 use Rattle.known_bits.specs.declared.Bits.{Bits}
 use Rattle.known_bits.specs.KnownBits.{Well, Mem, Best, Either}
+use Rattle.known_bits.specs.Pair.{top}
 use Rattle.known_bits.specs.Computed.{Computed}
 use Rattle.known_bits.specs.Formula.{low, shiftAndAdd, calculated}
 use Rattle.number.specs.declared.Range.{Range}
@@ -69,6 +70,27 @@ abbrev pub BoundedBy : Refined → Number → Number → Type 0
 BoundedBy Excluded d s = ⊥
 BoundedBy (Possible l m) d s = LowBitsWithin d l × LowBitsWithin s m
 
+-- the signed orders, each with the order of the same name
+pub data Signed : Comparison → Comparison → Type 0 where
+  sgt : Signed Sgt Gt
+  sge : Signed Sge Ge
+  slt : Signed Slt Lt
+  sle : Signed Sle Le
+
+-- a number moved by 2 ^ 63, so that signs are in order
+abbrev pub raised : Number → Number
+raised n = computed 64 Add n (exact (2 ^ 63))
+
+-- something is left of the moved numbers too, and moved back it bounds what is left of the numbers
+abbrev pub RaisedBy : Refined → Number → Number → Type 0
+RaisedBy Excluded d s = ⊥
+RaisedBy (Possible u v) d s = Narrower d (raised u) × Narrower s (raised v)
+
+-- x + gap ≤ y: of d and s are left d′ and s′, which reach no further than the other's ends allow
+pub record Ordered (gap : ℕ) (d s d′ s′ : Number) : Type 0 where
+  pub highest : d′ .range .hi + gap ≤ s .range .hi
+  pub lowest : d .range .lo + gap ≤ s′ .range .lo
+
 -- ---- operations, at 64 bits (class 7) and at 32 (class 4)
 pub record OfOperations : Type 0 where
   pub sound : (w : ℕ) → Wide w → (op : Operation) (a b : Number) (x y : ℕ) → In a x → In b y → In (computed w op a b) (alu w op x y)
@@ -99,6 +121,36 @@ pub record OfOperations : Type 0 where
   pub and-at-most-the-first : (w : ℕ) → Wide w → (a b : Number) → computed w And a b .range .hi ≤ modulo (2 ^ w) a .hi
   pub and-at-most-the-second : (w : ℕ) → Wide w → (a b : Number) → computed w And a b .range .hi ≤ modulo (2 ^ w) b .hi
 
+-- the ranges of all other operations, where u and v are the operands cut to w bits, and n is the second one as a count
+pub record OfRanges (w : ℕ) (a b : Number) (u v n : Range) : Type 0 where
+  pub product : u .hi * v .hi < 2 ^ w → computedRange w Mul a b ≡ record { lo = u .lo * v .lo; hi = u .hi * v .hi }
+  pub quotient : 0 < v .lo → computedRange w Div a b ≡ record { lo = u .lo / v .hi; hi = u .hi / v .lo }
+  pub quotient-at-most-the-dividend : v .lo ≡ 0 → computedRange w Div a b .hi ≤ u .hi
+  pub rest-of-less : u .hi < v .lo → computedRange w Mod a b ≡ u
+  pub rest-at-most-the-dividend : computed w Mod a b .range .hi ≤ u .hi
+  pub or-from-the-larger : max (u .lo) (v .lo) ≤ computed w Or a b .range .lo
+  pub or-no-longer : (k : ℕ) → u .hi < 2 ^ k → v .hi < 2 ^ k → computed w Or a b .range .hi < 2 ^ k
+  pub xor-no-longer : (k : ℕ) → u .hi < 2 ^ k → v .hi < 2 ^ k → computed w Xor a b .range .hi < 2 ^ k
+  pub left : u .hi * 2 ^ n .hi < 2 ^ w → computedRange w Lsh a b ≡ record { lo = u .lo * 2 ^ n .lo; hi = u .hi * 2 ^ n .hi }
+  pub right : computedRange w Rsh a b ≡ record { lo = u .lo / 2 ^ n .hi; hi = u .hi / 2 ^ n .lo }
+  pub signed-right : u .hi < 2 ^ (w - 1) → computedRange w Arsh a b ≡ record { lo = u .lo / 2 ^ n .hi; hi = u .hi / 2 ^ n .lo }
+  pub signed-right-of-negative : 2 ^ (w - 1) ≤ u .lo
+      → computedRange w Arsh a b ≡ record { lo = alu w Arsh (u .lo) (n .lo); hi = alu w Arsh (u .hi) (n .hi) }
+  pub negative : computed w Neg a b ≡ computed w Sub (exact 0) a
+  pub move : computedRange w Mov a b ≡ v
+
+-- what a cut to numbers below m leaves: all of a range that lies there, and what the known bits say of it
+pub record OfCuts (m : ℕ) (n : Number) : Type 0 where
+  pub of-small : Below m (n .range) → RangeWithin (modulo m n) (n .range)
+  pub of-bits : RangeWithin (modulo m n) (record { lo = n .bits .value % m; hi = top (n .bits) % m })
+
+-- a pair p and a range r that have sharpened each other
+pub record OfSharpening (p : Bits) (r : Range) (n : Number) : Type 0 where
+  pub above-least : p .value ≤ n .range .lo
+  pub below-top : n .range .hi ≤ top p
+  -- bit k is known if the ends have it in common, and all above it
+  pub common-lead : (j k : ℕ) → bitXor (max (r .lo) (p .value)) (min (r .hi) (top p)) < 2 ^ j → j ≤ k → bit k (n .bits .mask) ≡ 0
+
 -- of two ranges with numbers in them: no less wide range has all results
 pub record LeastRanges (a b : Range) : Type 0 where
   pub product : a .hi * b .hi < 2 ^ 64 → Tightest (Image (alu 64 Mul) a b) (productRange a b)
@@ -109,7 +161,9 @@ pub record LeastRanges (a b : Range) : Type 0 where
 -- ---- loads, accesses and joins
 pub record OfMemory : Type 0 where
   pub loaded-range : (k : ℕ) → loaded k .range ≡ record { lo = 0; hi = 2 ^ (8 * k) - 1 }
+  pub loaded-bits : (k : ℕ) → loaded k .bits ≡ record { value = 0; mask = 2 ^ (8 * k) - 1 }
   pub exact-range : (n : ℕ) → exact n .range ≡ record { lo = n; hi = n }
+  pub exact-bits : (n : ℕ) → exact n .bits ≡ record { value = n; mask = 0 }
   -- an access fits if and only if its last byte at the highest offset lies below the limit
   pub fits-exactly : (offset : Number) (size limit : ℕ) → (fits offset size limit ≡ true) ↔ (offset .range .hi + size ≤ limit)
 
@@ -136,6 +190,27 @@ pub record OfJumps (c : Comparison) (way : Bool) : Type 0 where
       → ((x y : ℕ) → Mem 64 (d .bits) x → Mem 64 (s .bits) y → compare 64 c x y ≡ way → ⊥) → refined c way d s ≡ Excluded
   pub exact-excluded : (x y : ℕ) → x < 2 ^ 64 → y < 2 ^ 64 → compare 64 c x y ≡ not way → refined c way (exact x) (exact y) ≡ Excluded
 
+-- what a way tells of both operands, if neither is known
+pub record OfBoth (d s : Number) : Type 0 where
+  pub gt-taken : Left (refined Gt true d s) (λ d′ s′. Ordered 1 s d s′ d′)
+  pub ge-taken : Left (refined Ge true d s) (λ d′ s′. Ordered 0 s d s′ d′)
+  pub lt-taken : Left (refined Lt true d s) (Ordered 1 d s)
+  pub le-taken : Left (refined Le true d s) (Ordered 0 d s)
+  pub gt-not-taken : Left (refined Gt false d s) (Ordered 0 d s)
+  pub ge-not-taken : Left (refined Ge false d s) (Ordered 1 d s)
+  pub lt-not-taken : Left (refined Lt false d s) (λ d′ s′. Ordered 0 s d s′ d′)
+  pub le-not-taken : Left (refined Le false d s) (λ d′ s′. Ordered 1 s d s′ d′)
+  -- equal numbers are each what is known of either
+  pub eq-taken : Left (refined Eq true d s) (λ d′ s′. Narrower d′ s × Narrower s′ d)
+  pub ne-not-taken : Left (refined Ne false d s) (λ d′ s′. Narrower d′ s × Narrower s′ d)
+  -- a signed order is that of the moved numbers
+  pub signed : (c o : Comparison) → Signed c o → (way : Bool)
+      → Left (refined c way d s) (RaisedBy (refined o way (raised d) (raised s)))
+  -- JSET not taken: neither has a bit that the other is known to have
+  pub jset-not-taken : Left (refined Set false d s) (λ d′ s′. (x : ℕ) → Mem 64 (d′ .bits) x → bitAnd x (s .bits .value) ≡ 0)
+  pub jset-excluded : (way : Bool) → ((x y : ℕ) → Mem 64 (d .bits) x → Mem 64 (s .bits) y → compare 64 Set x y ≡ way → ⊥)
+      → refined Set way d s ≡ Excluded
+
 -- the same of low halves (class 6), and nothing about the upper ones
 pub record OfLowHalves (c : Comparison) (way : Bool) : Type 0 where
   pub sound : (d s : Number) (x y : ℕ) → In d x → In s y → compare 32 c x y ≡ way → Kept (refined32 c way d s) x y
@@ -160,9 +235,15 @@ pub record OfJset (d : Number) (k : ℕ) : Type 0 where
 -- ---- all of it
 pub record Demanded : Type 0 where
   pub operations : OfOperations
+  pub ranges : (w : ℕ) → Wide w → (a b : Number) → modulo (2 ^ w) a .lo ≤ modulo (2 ^ w) a .hi → modulo (2 ^ w) b .lo ≤ modulo (2 ^ w) b .hi
+      → modulo w b .lo ≤ modulo w b .hi → OfRanges w a b (modulo (2 ^ w) a) (modulo (2 ^ w) b) (modulo w b)
+  pub cuts : (m : ℕ) (n : Number) → OfCuts m n
+  pub sharpening : (w : ℕ) (op : Operation) (a b : Number)
+      → OfSharpening (calculated w op (a .bits) (b .bits)) (computedRange w op a b) (computed w op a b)
   pub least-ranges : (a b : Range) → a .lo ≤ a .hi → b .lo ≤ b .hi → LeastRanges a b
   pub memory : OfMemory
   pub joins : (a b : Number) → OfJoins a b
   pub jumps : (c : Comparison) (way : Bool) → OfJumps c way
+  pub both : (d s : Number) → Well 64 (d .bits) → Well 64 (s .bits) → OfBoth d s
   pub low-halves : (c : Comparison) (way : Bool) → OfLowHalves c way
   pub jset : (d : Number) (k : ℕ) → Well 64 (d .bits) → k < 2 ^ 64 → OfJset d k
