@@ -10,6 +10,7 @@ use Rattle.known_bits.specs.Formula.{among}
 use Rattle.number.specs.declared.Range.{Range}
 use Rattle.number.specs.declared.Number.{Number}
 use Rattle.number.specs.Sharpen.{just, exact, everything, loaded}
+use Rattle.number.specs.Halves.{lowHalf, movedHalf}
 use Rattle.number.specs.Demanded.{OfOperations, LeastRanges, OfMemory, OfJoins, OfJumps, OfLowHalves, OfJset, Demanded}
 use Rattle.number.proofs.AgainstKnown.{excluded-if-none-goes, refined-tightest, set-not-taken-clears, refined-exact-excluded}
 use Rattle.number.proofs.Compare.{refined-sound, refined-narrower}
@@ -19,6 +20,7 @@ use Rattle.number.proofs.Ends.{ranges-are, cuts-are, sharpening-is}
 use Rattle.number.proofs.Exclusion.{excluded-by-ranges, excluded-by-bits}
 use Rattle.number.proofs.Halves.{refined32-sound, refined32-narrower, refined32-upper, refined32-exact-excluded}
 use Rattle.number.proofs.HalvesAgainstKnown.{excluded32-if-none-goes, refined32-tightest}
+use Rattle.number.proofs.HalvesBoth.{refined32-low-ranges, refined32-signed}
 use Rattle.number.proofs.HalvesWithin.{refined32-low-bits, excluded32-by-bits, set32-not-taken-clears}
 use Rattle.number.proofs.Known.{joined-covers-left, joined-covers-right, joined-range-is, joined-bits-best}
 use Rattle.number.proofs.Shorter.{computed-rest-below-the-divisor, computed-and-at-most-the-first, computed-and-at-most-the-second}
@@ -73,12 +75,15 @@ jumps c way =
     }
 
 low-halves : (c : Comparison) (way : Bool) → OfLowHalves c way
+unfolding lowHalf movedHalf
 low-halves c way =
     record {
       sound = refined32-sound c way;
       narrower = refined32-narrower c way;
       upper = refined32-upper c way;
       low-bits = refined32-low-bits c way;
+      low-ranges = refined32-low-ranges c way;
+      signed = refined32-signed c way;
       tightest = refined32-tightest c way;
       excluded-if-none-goes = excluded32-if-none-goes c way;
       excluded-by-bits = excluded32-by-bits c way;

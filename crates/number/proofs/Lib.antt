@@ -13,6 +13,7 @@ pub mod HalfBits
 pub mod HalfOrders
 pub mod Halves
 pub mod HalvesAgainstKnown
+pub mod HalvesBoth
 pub mod HalvesInOrder
 pub mod HalvesVectors
 pub mod HalvesWithin
