@@ -23,6 +23,7 @@ pub mod Limits
 pub mod Operands
 pub mod Orders
 pub mod Outcomes
+pub mod PowersAndShifts
 pub mod RangeLaws
 pub mod RangesInOrder
 pub mod Relations

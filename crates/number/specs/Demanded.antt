@@ -11,7 +11,7 @@ use Rattle.word.specs.declared.Operation.the-variants.{Add, Sub, Mul, Div, Or, 
 use Rattle.word.specs.declared.Comparison.{Comparison}
 use Rattle.word.specs.declared.Comparison.the-variants.{Eq, Ne, Gt, Ge, Lt, Le, Set, Sgt, Sge, Slt, Sle}
 use Rattle.known_bits.specs.declared.Bits.{Bits}
-use Rattle.known_bits.specs.KnownBits.{Well, Mem, Best, Either}
+use Rattle.known_bits.specs.KnownBits.{Well, Mem, Best, Results, Either}
 use Rattle.known_bits.specs.Pair.{top}
 use Rattle.known_bits.specs.Computed.{Computed}
 use Rattle.known_bits.specs.Formula.{low, shiftAndAdd, calculated}
@@ -40,6 +40,12 @@ pub data Unsigned : Comparison → Type 0 where
   ge : Unsigned Ge
   lt : Unsigned Lt
   le : Unsigned Le
+
+-- the shifts
+pub data IsShift : Operation → Type 0 where
+  lsh : IsShift Lsh
+  rsh : IsShift Rsh
+  arsh : IsShift Arsh
 
 -- both ends are below m
 pub record Below (m : ℕ) (r : Range) : Type 0 where
@@ -123,6 +129,14 @@ pub record OfOperations : Type 0 where
       → BitsWithin (calculated w Mul a b) (shiftAndAdd w (low w a) (low w b)) × BitsWithin (calculated w Mul a b) (shiftAndAdd w (low w b) (low w a))
   pub product-of-multiples : (w : ℕ) → Wide w → (a b : Bits) → Well 64 a → Well 64 b → (i j : ℕ)
       → ((x : ℕ) → Mem 64 a x → x % 2 ^ i ≡ 0) → ((y : ℕ) → Mem 64 b y → y % 2 ^ j ≡ 0) → (z : ℕ) → Mem 64 (calculated w Mul a b) z → z % 2 ^ (i + j) ≡ 0
+  -- by a known power of two: the pair shifted, and cut
+  pub quotient-by-power : (w : ℕ) → Wide w → (a b : Bits) (n : ℕ) → n < w → b .value % 2 ^ w ≡ 2 ^ n → b .mask % 2 ^ w ≡ 0
+      → calculated w Div a b ≡ record { value = a .value % 2 ^ w / 2 ^ n; mask = a .mask % 2 ^ w / 2 ^ n }
+  pub rest-by-power : (w : ℕ) → Wide w → (a b : Bits) (n : ℕ) → n < w → b .value % 2 ^ w ≡ 2 ^ n → b .mask % 2 ^ w ≡ 0
+      → calculated w Mod a b ≡ record { value = a .value % 2 ^ w % 2 ^ n; mask = a .mask % 2 ^ w % 2 ^ n }
+  -- a shift by a count that is one of two: the best pair
+  pub shift-by-one-of-two : (w : ℕ) → Wide w → (op : Operation) → IsShift op → (a b : Bits) → Well 64 a → Well 64 b
+      → ¬ (b .mask % w ≡ 0) → bitAnd (b .mask % w) (b .mask % w - 1) ≡ 0 → Best 64 (Results w op a b) (calculated w op a b)
   -- the range of a sum and of a difference that cannot wrap: the exact sum and difference of the ends
   pub sum-within : (w : ℕ) → Wide w → (a b : Number) (x y : ℕ) → In a x → In b y → a .range .hi + b .range .hi < 2 ^ w
       → RangeWithin (computed w Add a b .range) (record { lo = a .range .lo + b .range .lo; hi = a .range .hi + b .range .hi })
