@@ -10,6 +10,7 @@ use Rattle.known_bits.specs.Formula.{among}
 use Rattle.number.specs.declared.Range.{Range}
 use Rattle.number.specs.declared.Number.{Number}
 use Rattle.number.specs.Sharpen.{just, exact, everything, loaded}
+use Rattle.number.specs.Halves.{lowHalf, movedHalf}
 use Rattle.number.specs.Demanded.{OfOperations, LeastRanges, OfMemory, OfJoins, OfJumps, OfLowHalves, OfJset, Demanded}
 use Rattle.number.proofs.AgainstKnown.{excluded-if-none-goes, refined-tightest, set-not-taken-clears, refined-exact-excluded}
 use Rattle.number.proofs.Compare.{refined-sound, refined-narrower}
@@ -19,8 +20,10 @@ use Rattle.number.proofs.Ends.{ranges-are, cuts-are, sharpening-is}
 use Rattle.number.proofs.Exclusion.{excluded-by-ranges, excluded-by-bits}
 use Rattle.number.proofs.Halves.{refined32-sound, refined32-narrower, refined32-upper, refined32-exact-excluded}
 use Rattle.number.proofs.HalvesAgainstKnown.{excluded32-if-none-goes, refined32-tightest}
+use Rattle.number.proofs.HalvesBoth.{refined32-low-ranges, refined32-signed}
 use Rattle.number.proofs.HalvesWithin.{refined32-low-bits, excluded32-by-bits, set32-not-taken-clears}
 use Rattle.number.proofs.Known.{joined-covers-left, joined-covers-right, joined-range-is, joined-bits-best}
+use Rattle.number.proofs.PowersAndShifts.{calculated-quotient-by-power, calculated-rest-by-power, shift-by-one-of-two-best}
 use Rattle.number.proofs.Shorter.{computed-rest-below-the-divisor, computed-and-at-most-the-first, computed-and-at-most-the-second}
 use Rattle.number.proofs.SumLaws.{sum-within, difference-within, sum-ends, difference-ends}
 use Rattle.number.proofs.Tightness.{product-range-tightest, quotient-range-tightest, left-range-tightest, right-range-tightest}
@@ -34,6 +37,9 @@ operations =
       bits-best = λ w h op a b. calculated-computed w h op (a .bits) (b .bits);
       product-bits = λ w h a b ga gb. (λ z m. product-within-shift-and-add w h a b ga gb z m .0, λ z m. product-within-shift-and-add w h a b ga gb z m .1);
       product-of-multiples = λ w h a b ga gb i j p q z m. product-of-multiples w h a b ga gb z m i j p q;
+      quotient-by-power = calculated-quotient-by-power;
+      rest-by-power = calculated-rest-by-power;
+      shift-by-one-of-two = shift-by-one-of-two-best;
       sum-within = sum-within;
       difference-within = difference-within;
       range-within = computed-range-within;
@@ -73,12 +79,15 @@ jumps c way =
     }
 
 low-halves : (c : Comparison) (way : Bool) → OfLowHalves c way
+unfolding lowHalf movedHalf
 low-halves c way =
     record {
       sound = refined32-sound c way;
       narrower = refined32-narrower c way;
       upper = refined32-upper c way;
       low-bits = refined32-low-bits c way;
+      low-ranges = refined32-low-ranges c way;
+      signed = refined32-signed c way;
       tightest = refined32-tightest c way;
       excluded-if-none-goes = excluded32-if-none-goes c way;
       excluded-by-bits = excluded32-by-bits c way;

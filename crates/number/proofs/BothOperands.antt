@@ -18,7 +18,7 @@ use Rattle.number.specs.Meaning.{Narrower, Left}
 use Rattle.number.specs.Sharpen.{sharpened}
 use Rattle.number.specs.Compare.{exchanged, ordered, common, equalBy, equal, resharpened, disjoint, turned, turnedBack, signedOrdered, refined}
 use Rattle.number.specs.Demanded.{Signed, sgt, sge, slt, sle, raised, RaisedBy, Ordered, OfBoth}
-use Rattle.number.proofs.Outcomes.{Sharper, left-map, left-both, settled-leaves, firsts-leave}
+use Rattle.number.proofs.Outcomes.{Sharper, left-map, left-both, exchanged-leaves, settled-leaves, firsts-leave}
 use Rattle.number.proofs.Relations.{told, relation, refined-is-told}
 use Rattle.number.proofs.Orders.{OrderLeft, ordered-leaves}
 use Rattle.number.proofs.Equality.{equal-leaves}
@@ -27,11 +27,6 @@ use Rattle.number.proofs.SharedBits.{DisjointLeft, disjoint-leaves, non
 use Rattle.number.proofs.Signs.{turned-form}
 use Rattle.number.proofs.Exclusion.{set-excluded-by-bits}
 
-exchanged-leaves : (r : Refined) (P : Number → Number → Type 0) → Left r P → Left (exchanged r) (λ d s. P s d)
-unfolding exchanged
-exchanged-leaves Excluded P h = tt
-exchanged-leaves (Possible d s) P h = h
-
 -- ---- orders
 bounded : (gap : ℕ) (d s : Number) → Left (ordered gap d s) (Ordered gap d s)
 bounded gap d s =
@@ -39,7 +34,7 @@ bounded gap d s =
     (ordered-leaves gap d s)
 
 bounded-above : (gap : ℕ) (d s : Number) → Left (exchanged (ordered gap s d)) (λ d′ s′. Ordered gap s d s′ d′)
-bounded-above gap d s = exchanged-leaves (ordered gap s d) (Ordered gap s d) (bounded gap s d)
+bounded-above gap d s = exchanged-leaves (ordered gap s d) (λ d′ s′. Ordered gap s d s′ d′) (bounded gap s d)
 
 -- ---- equality: one Number is left of both
 equalBy-leaves-one : (r : Learnt) (t : Range) → Left (equalBy r t) (λ d′ s′. d′ ≡ s′)
@@ -51,7 +46,7 @@ equal-leaves-one : (d s : Number) → Left (equal d s) (λ d′ s′. d′ ≡ s
 unfolding equal
 equal-leaves-one d s = equalBy-leaves-one (met (d .bits) (s .bits)) (common (d .range) (s .range))
 
-equal-leaves-both : (d s : Number) → Well 64 (d .bits) → Well 64 (s .bits) → Left (equal d s) (λ d′ s′. Narrower d′ s × Narrower s′ d)
+pub equal-leaves-both : (d s : Number) → Well 64 (d .bits) → Well 64 (s .bits) → Left (equal d s) (λ d′ s′. Narrower d′ s × Narrower s′ d)
 equal-leaves-both d s gd gs =
     left-map (equal d s) (λ d′ s′. Sharper d s d′ s′ × (d′ ≡ s′)) (λ d′ s′. Narrower d′ s × Narrower s′ d)
     (λ d′ s′ h. (subst (λ n. Narrower n s) (sym (h .1)) (h .0 .second), subst (λ n. Narrower n d) (h .1) (h .0 .first)))

@@ -138,7 +138,7 @@ exactly-only x y h m = ext 64 y x (m .fits) h (λ k l. m .agrees k l (bit-zero k
 
 -- ---- every number that the known bits of a compared half have is the key of a number of the whole's
 module _ (n : Number) (g : Well 64 (n .bits)) (u : ℕ) where
-  low-half-below : Mem 64 (lowHalf n .bits) u → u < 2 ^ 32
+  pub low-half-below : Mem 64 (lowHalf n .bits) u → u < 2 ^ 32
   unfolding lowHalf calculated formula
   low-half-below i =
       mem-narrower 32 64 (omega arith) (low 32 (n .bits)) (low-well 32 64 (omega arith) (n .bits) g) u (computed-bits-within 32 Mov n n u i) .fits
@@ -156,7 +156,7 @@ module _ (n : Number) (g : Well 64 (n .bits)) (u : ℕ) where
       let f = flipped-form (n .bits) in
       let e = exact-in (2 ^ 31) (omega arith) in
       let m = computed-best 32 (inr refl) Add n (exact (2 ^ 31)) g (e .form) tt (flippedPair (n .bits)) (well-wider 32 64 (omega arith) (flippedPair (n .bits)) f)
-          (λ z r. subst (Mem 64 (flippedPair (n .bits))) (sym (moved-by (r .0) (r .1) z (r .3) (r .4))) (flipped-has (n .bits) (r .0) (r .2))) u i in
+      (λ z r. subst (Mem 64 (flippedPair (n .bits))) (sym (moved-by (r .0) (r .1) z (r .3) (r .4))) (flipped-has (n .bits) (r .0) (r .2))) u i in
       let h = mem-narrower 32 64 (omega arith) (flippedPair (n .bits)) f u m .fits in
       let z = flipped u in (
         halves (n .bits .value) z,
@@ -210,7 +210,7 @@ excluded32-by-bits c way other d s gd gs none =
 
 -- ---- without a sign the low halves themselves are compared
 module _ (n l : Number) (small : l .bits .value < 2 ^ 32) where
-  with-low-bits : LowBitsWithin (withLow n l) l
+  pub with-low-bits : LowBitsWithin (withLow n l) l
   unfolding withLow
   with-low-bits x i = record { fits = omega (arith, cut-below 32 x); agrees = λ k h e. at k e (decLt k 32) }
     where
@@ -233,7 +233,7 @@ bare c (inl le) = record { no-sign = refl; itself = refl }
 bare c (inr e) = rw e (record { no-sign = refl; itself = refl })
 
 module _ (c : Comparison) (way : Bool) (u : Unsigned c ⊎ (c ≡ Set)) (d s : Number) (gd : Well 64 (d .bits)) (gs : Well 64 (s .bits)) where
-  bare-refined32 : refined32 c way d s ≡ whole d s (refined c way (lowHalf d) (lowHalf s))
+  pub bare-refined32 : refined32 c way d s ≡ whole d s (refined c way (lowHalf d) (lowHalf s))
   unfolding lowHalves compared
   bare-refined32 = let b = bare c u in refined32-is c way d s ∙ rw (b .no-sign, b .itself) refl
 

@@ -13,6 +13,7 @@ pub mod HalfBits
 pub mod HalfOrders
 pub mod Halves
 pub mod HalvesAgainstKnown
+pub mod HalvesBoth
 pub mod HalvesInOrder
 pub mod HalvesVectors
 pub mod HalvesWithin
@@ -23,6 +24,7 @@ pub mod Operable
 pub mod Operands
 pub mod Orders
 pub mod Outcomes
+pub mod PowersAndShifts
 pub mod RangeLaws
 pub mod RangesInOrder
 pub mod Relations

@@ -11,7 +11,7 @@ use Rattle.word.specs.declared.Operation.the-variants.{Add, Sub, Mul, Div, Or, 
 use Rattle.word.specs.declared.Comparison.{Comparison}
 use Rattle.word.specs.declared.Comparison.the-variants.{Eq, Ne, Gt, Ge, Lt, Le, Set, Sgt, Sge, Slt, Sle}
 use Rattle.known_bits.specs.declared.Bits.{Bits}
-use Rattle.known_bits.specs.KnownBits.{Well, Mem, Best, Either}
+use Rattle.known_bits.specs.KnownBits.{Well, Mem, Best, Results, Either}
 use Rattle.known_bits.specs.Pair.{top}
 use Rattle.known_bits.specs.Computed.{Computed}
 use Rattle.known_bits.specs.Formula.{low, shiftAndAdd, calculated}
@@ -24,7 +24,7 @@ use Rattle.number.specs.Sharpen.{exact, loaded, everything, joinedNumber
 use Rattle.number.specs.Ranges.{productRange, quotientRange, leftRange, crossed}
 use Rattle.number.specs.Computed.{modulo, computedRange, computed, fits}
 use Rattle.number.specs.Compare.{refined}
-use Rattle.number.specs.Halves.{lowHalf, refined32, UpperKept}
+use Rattle.number.specs.Halves.{refined32, UpperKept}
 
 -- ---- the words
 
@@ -40,6 +40,12 @@ pub data Unsigned : Comparison → Type 0 where
   ge : Unsigned Ge
   lt : Unsigned Lt
   le : Unsigned Le
+
+-- the shifts
+pub data IsShift : Operation → Type 0 where
+  lsh : IsShift Lsh
+  rsh : IsShift Rsh
+  arsh : IsShift Arsh
 
 -- both ends are below m
 pub record Below (m : ℕ) (r : Range) : Type 0 where
@@ -69,6 +75,25 @@ LowBitsWithin n l = (x : ℕ) → Mem 64 (n .bits) x → Mem 64 (l .bits) (cut 3
 abbrev pub BoundedBy : Refined → Number → Number → Type 0
 BoundedBy Excluded d s = ⊥
 BoundedBy (Possible l m) d s = LowBitsWithin d l × LowBitsWithin s m
+
+-- a number below 2 ^ 32 is its low half: of n is left n′, whose range l has
+abbrev pub LowRangeWithin : Number → Number → Number → Type 0
+LowRangeWithin n n′ l = n .range .hi < 2 ^ 32 → RangeWithin (n′ .range) (l .range)
+
+-- so of the ranges of d and s
+abbrev pub RangesBoundedBy : Number → Number → Refined → Number → Number → Type 0
+RangesBoundedBy d s Excluded d′ s′ = ⊥
+RangesBoundedBy d s (Possible l m) d′ s′ = LowRangeWithin d d′ l × LowRangeWithin s s′ m
+
+-- a low half moved by 2 ^ 31, so that signs are in order
+abbrev pub raisedHalf : Number → Number
+raisedHalf n = computed 32 Add n (exact (2 ^ 31))
+
+-- something is left of the moved halves too, and moved back it bounds what is left of the whole numbers
+abbrev pub HalvesRaisedBy : Number → Number → Refined → Number → Number → Type 0
+HalvesRaisedBy d s Excluded d′ s′ = ⊥
+HalvesRaisedBy d s (Possible u v) d′ s′ =
+    LowBitsWithin d′ (raisedHalf u) × LowBitsWithin s′ (raisedHalf v) × LowRangeWithin d d′ (raisedHalf u) × LowRangeWithin s s′ (raisedHalf v)
 
 -- the signed orders, each with the order of the same name
 pub data Signed : Comparison → Comparison → Type 0 where
@@ -104,6 +129,14 @@ pub record OfOperations : Type 0 where
       → BitsWithin (calculated w Mul a b) (shiftAndAdd w (low w a) (low w b)) × BitsWithin (calculated w Mul a b) (shiftAndAdd w (low w b) (low w a))
   pub product-of-multiples : (w : ℕ) → Wide w → (a b : Bits) → Well 64 a → Well 64 b → (i j : ℕ)
       → ((x : ℕ) → Mem 64 a x → x % 2 ^ i ≡ 0) → ((y : ℕ) → Mem 64 b y → y % 2 ^ j ≡ 0) → (z : ℕ) → Mem 64 (calculated w Mul a b) z → z % 2 ^ (i + j) ≡ 0
+  -- by a known power of two: the pair shifted, and cut
+  pub quotient-by-power : (w : ℕ) → Wide w → (a b : Bits) (n : ℕ) → n < w → b .value % 2 ^ w ≡ 2 ^ n → b .mask % 2 ^ w ≡ 0
+      → calculated w Div a b ≡ record { value = a .value % 2 ^ w / 2 ^ n; mask = a .mask % 2 ^ w / 2 ^ n }
+  pub rest-by-power : (w : ℕ) → Wide w → (a b : Bits) (n : ℕ) → n < w → b .value % 2 ^ w ≡ 2 ^ n → b .mask % 2 ^ w ≡ 0
+      → calculated w Mod a b ≡ record { value = a .value % 2 ^ w % 2 ^ n; mask = a .mask % 2 ^ w % 2 ^ n }
+  -- a shift by a count that is one of two: the best pair
+  pub shift-by-one-of-two : (w : ℕ) → Wide w → (op : Operation) → IsShift op → (a b : Bits) → Well 64 a → Well 64 b
+      → ¬ (b .mask % w ≡ 0) → bitAnd (b .mask % w) (b .mask % w - 1) ≡ 0 → Best 64 (Results w op a b) (calculated w op a b)
   -- the range of a sum and of a difference that cannot wrap: the exact sum and difference of the ends
   pub sum-within : (w : ℕ) → Wide w → (a b : Number) (x y : ℕ) → In a x → In b y → a .range .hi + b .range .hi < 2 ^ w
       → RangeWithin (computed w Add a b .range) (record { lo = a .range .lo + b .range .lo; hi = a .range .hi + b .range .hi })
@@ -218,7 +251,12 @@ pub record OfLowHalves (c : Comparison) (way : Bool) : Type 0 where
   pub upper : (d s : Number) → Left (refined32 c way d s) (λ d′ s′. UpperKept d′ d × UpperKept s′ s)
   -- without a sign: what class 5 leaves of the low halves is what is known of the low 32 bits
   pub low-bits : Unsigned c ⊎ (c ≡ Set) → (d s : Number) → Well 64 (d .bits) → Well 64 (s .bits)
-      → Left (refined32 c way d s) (BoundedBy (refined c way (lowHalf d) (lowHalf s)))
+      → Left (refined32 c way d s) (BoundedBy (refined c way (computed 32 Mov d d) (computed 32 Mov s s)))
+  pub low-ranges : Unsigned c ⊎ (c ≡ Set) → (d s : Number) → Well 64 (d .bits) → Well 64 (s .bits)
+      → Left (refined32 c way d s) (RangesBoundedBy d s (refined c way (computed 32 Mov d d) (computed 32 Mov s s)))
+  -- with a sign: what the order of the moved halves leaves
+  pub signed : (o : Comparison) → Signed c o → (d s : Number) → Well 64 (d .bits) → Well 64 (s .bits)
+      → Left (refined32 c way d s) (HalvesRaisedBy d s (refined o way (raisedHalf d) (raisedHalf s)))
   pub tightest : Unsigned c → (d : Number) (k : ℕ) → Below (2 ^ 32) (d .range) → k < 2 ^ 64
       → Left (refined32 c way d (exact k)) (λ d′ s′. Tightest (Going32 c way (d .range) k) (d′ .range))
   pub excluded-if-none-goes : Unsigned c → (d : Number) (k : ℕ) → Below (2 ^ 32) (d .range) → k < 2 ^ 64
