@@ -23,13 +23,7 @@ fn judge(program: &[u8], record_len: u64, scratch: &mut [u64], out: &mut [u8]) {
     conclude(answer, program, out);
 }
 
-fn judge_file(
-    args: &[u8],
-    order: Order,
-    program: &mut [u8],
-    scratch: &mut [u64],
-    out: &mut [u8],
-)
+fn judge_file(args: &[u8], order: Order, program: &mut [u8], scratch: &mut [u64], out: &mut [u8])
     requires { ⌜ Placed (length (now args)) order ⌝ }
 {
     let fetched = fetch_program(args, order, program, out);
@@ -48,12 +42,7 @@ fn refuse_verb() {
     status(b'2');
 }
 
-fn serve(
-    args: &[u8],
-    program: &mut [u8],
-    scratch: &mut [u64],
-    out: &mut [u8],
-) {
+fn serve(args: &[u8], program: &mut [u8], scratch: &mut [u64], out: &mut [u8]) {
     let parsed = parse(args);
     match parsed {
         Parsed::Do(order) => {
@@ -80,10 +69,5 @@ fn main() {
         refuse_arguments(&mut out);
         return;
     }
-    serve(
-        &args[0..n],
-        &mut program,
-        &mut scratch,
-        &mut out,
-    );
+    serve(&args[0..n], &mut program, &mut scratch, &mut out);
 }
