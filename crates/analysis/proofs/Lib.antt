@@ -13,6 +13,7 @@ pub mod Programs
 pub mod Promised
 pub mod Reasons
 pub mod Refusing
+pub mod Roles
 pub mod Running
 pub mod Sentences
 pub mod SharperEffects

@@ -5,7 +5,7 @@ use mathlib.Core.Logic.{_⊎_, inl, inr}
 use Prim.Native.Nat.{ℕ, _+_}
 use native.Mathlib.Omega.{arith}
 use Rattle.word.specs.declared.Operation.{Operation}
-use Rattle.word.specs.declared.Operation.the-variants.{Add, Sub, Mul, Div, Or, And, Lsh, Rsh, Mod, Xor, Mov, Arsh}
+use Rattle.word.specs.declared.Operation.the-variants.{Add, Sub, Mov}
 use Rattle.word.specs.declared.Operation.the-variants as operation
 use Rattle.word.specs.declared.Comparison.{Comparison}
 use Rattle.machine.specs.declared.instruction.Width.{Width}
@@ -27,6 +27,7 @@ use Rattle.analysis.specs.declared.Effect.the-variants.{Refuse}
 use Rattle.analysis.specs.Values.{Facts, valueOf, operandOf}
 use Rattle.analysis.specs.Effects.{isNever, isMixed, reading, readingBoth, calculates, role, calculate, sum, difference, arithmetic, load, storeAt, store, fork, exit, effect}
 use Rattle.analysis.specs.Promise.{OfReading, Usable, IsAddress, OfRefusals}
+use Rattle.analysis.proofs.Roles.{by-role}
 
 -- ---- what may not be used
 reading-refuses : (x : Value) (e : Effect) → OfReading x x (reading x e)
@@ -68,33 +69,11 @@ reading-both-refuses x y e =
 module _ (R i : ℕ) (a : Facts) where
   calculating-reads : (w : Width) (op : Operation) (d : ℕ) (s : Operand) → ¬ (op ≡ Mov)
       → OfReading (valueOf a d) (operandOf a s) (effect R i a (Alu w op d s))
-  unfolding effect arithmetic role
-  calculating-reads Long Add d s n = reading-both-refuses _ _ _
-  calculating-reads Long Sub d s n = reading-both-refuses _ _ _
-  calculating-reads Long Mul d s n = reading-both-refuses _ _ _
-  calculating-reads Long Div d s n = reading-both-refuses _ _ _
-  calculating-reads Long Or d s n = reading-both-refuses _ _ _
-  calculating-reads Long And d s n = reading-both-refuses _ _ _
-  calculating-reads Long Lsh d s n = reading-both-refuses _ _ _
-  calculating-reads Long Rsh d s n = reading-both-refuses _ _ _
-  calculating-reads Long operation.Neg d s n = reading-both-refuses _ _ _
-  calculating-reads Long Mod d s n = reading-both-refuses _ _ _
-  calculating-reads Long Xor d s n = reading-both-refuses _ _ _
-  calculating-reads Long Arsh d s n = reading-both-refuses _ _ _
-  calculating-reads Long Mov d s n = absurd (n refl)
-  calculating-reads Short Add d s n = reading-both-refuses _ _ _
-  calculating-reads Short Sub d s n = reading-both-refuses _ _ _
-  calculating-reads Short Mul d s n = reading-both-refuses _ _ _
-  calculating-reads Short Div d s n = reading-both-refuses _ _ _
-  calculating-reads Short Or d s n = reading-both-refuses _ _ _
-  calculating-reads Short And d s n = reading-both-refuses _ _ _
-  calculating-reads Short Lsh d s n = reading-both-refuses _ _ _
-  calculating-reads Short Rsh d s n = reading-both-refuses _ _ _
-  calculating-reads Short operation.Neg d s n = reading-both-refuses _ _ _
-  calculating-reads Short Mod d s n = reading-both-refuses _ _ _
-  calculating-reads Short Xor d s n = reading-both-refuses _ _ _
-  calculating-reads Short Arsh d s n = reading-both-refuses _ _ _
-  calculating-reads Short Mov d s n = absurd (n refl)
+  unfolding effect arithmetic
+  calculating-reads w op d s n =
+      by-role (λ v o r. ¬ (o ≡ Mov) → OfReading (valueOf a d) (operandOf a s) (arithmetic r (bits v) o d (valueOf a d) (operandOf a s)))
+      (λ m. reading-both-refuses _ _ _) (λ m. reading-both-refuses _ _ _) (λ m. absurd (m refl)) (λ m. absurd (m refl))
+      (λ v o e m. reading-both-refuses _ _ _) w op n
 
   moving-reads : (w : Width) (d : ℕ) (s : Operand) → OfReading (operandOf a s) (operandOf a s) (effect R i a (Alu w Mov d s))
   unfolding effect arithmetic role
@@ -170,35 +149,23 @@ module _ (R i : ℕ) (a : Facts) where
   calculated-with : (w : Width) (op : Operation) (d : ℕ) (s : Operand) → ¬ (op ≡ Mov) → (w ≡ Short) ⊎ (¬ (op ≡ Add) × ¬ (op ≡ Sub))
       → Usable (valueOf a d) → Usable (operandOf a s) → IsAddress (valueOf a d) ⊎ IsAddress (operandOf a s)
       → effect R i a (Alu w op d s) ≡ Refuse LeaksAddress
-  unfolding effect role
-  calculated-with Long Add d s n (inl e) = absurd (let z : _≡_ {A = ℕ} 0 1 = cc in omega arith)
-  calculated-with Long Add d s n (inr e) = absurd (e .0 refl)
-  calculated-with Long Sub d s n (inl e) = absurd (let z : _≡_ {A = ℕ} 0 1 = cc in omega arith)
-  calculated-with Long Sub d s n (inr e) = absurd (e .1 refl)
-  calculated-with Long Mul d s n e = calculate-leaks _ _ d (valueOf a d) (operandOf a s)
-  calculated-with Long Div d s n e = calculate-leaks _ _ d (valueOf a d) (operandOf a s)
-  calculated-with Long Or d s n e = calculate-leaks _ _ d (valueOf a d) (operandOf a s)
-  calculated-with Long And d s n e = calculate-leaks _ _ d (valueOf a d) (operandOf a s)
-  calculated-with Long Lsh d s n e = calculate-leaks _ _ d (valueOf a d) (operandOf a s)
-  calculated-with Long Rsh d s n e = calculate-leaks _ _ d (valueOf a d) (operandOf a s)
-  calculated-with Long operation.Neg d s n e = calculate-leaks _ _ d (valueOf a d) (operandOf a s)
-  calculated-with Long Mod d s n e = calculate-leaks _ _ d (valueOf a d) (operandOf a s)
-  calculated-with Long Xor d s n e = calculate-leaks _ _ d (valueOf a d) (operandOf a s)
-  calculated-with Long Arsh d s n e = calculate-leaks _ _ d (valueOf a d) (operandOf a s)
-  calculated-with Long Mov d s n e = absurd (n refl)
-  calculated-with Short Add d s n e = calculate-leaks _ _ d (valueOf a d) (operandOf a s)
-  calculated-with Short Sub d s n e = calculate-leaks _ _ d (valueOf a d) (operandOf a s)
-  calculated-with Short Mul d s n e = calculate-leaks _ _ d (valueOf a d) (operandOf a s)
-  calculated-with Short Div d s n e = calculate-leaks _ _ d (valueOf a d) (operandOf a s)
-  calculated-with Short Or d s n e = calculate-leaks _ _ d (valueOf a d) (operandOf a s)
-  calculated-with Short And d s n e = calculate-leaks _ _ d (valueOf a d) (operandOf a s)
-  calculated-with Short Lsh d s n e = calculate-leaks _ _ d (valueOf a d) (operandOf a s)
-  calculated-with Short Rsh d s n e = calculate-leaks _ _ d (valueOf a d) (operandOf a s)
-  calculated-with Short operation.Neg d s n e = calculate-leaks _ _ d (valueOf a d) (operandOf a s)
-  calculated-with Short Mod d s n e = calculate-leaks _ _ d (valueOf a d) (operandOf a s)
-  calculated-with Short Xor d s n e = calculate-leaks _ _ d (valueOf a d) (operandOf a s)
-  calculated-with Short Arsh d s n e = calculate-leaks _ _ d (valueOf a d) (operandOf a s)
-  calculated-with Short Mov d s n e = absurd (n refl)
+  unfolding effect
+  calculated-with w op d s =
+      by-role (λ v o r. ¬ (o ≡ Mov) → (v ≡ Short) ⊎ (¬ (o ≡ Add) × ¬ (o ≡ Sub)) → Usable (valueOf a d) → Usable (operandOf a s)
+      → IsAddress (valueOf a d) ⊎ IsAddress (operandOf a s) → arithmetic r (bits v) o d (valueOf a d) (operandOf a s) ≡ Refuse LeaksAddress)
+      (λ m h. absurd (neither h)) (λ m h. absurd (neither-sub h)) (λ m. absurd (m refl)) (λ m. absurd (m refl))
+      (λ v o e m h. calculate-leaks (bits v) o d (valueOf a d) (operandOf a s)) w op
+    where
+      long-short : Long ≡ Short → ⊥
+      long-short e = let z : _≡_ {A = ℕ} 0 1 = cc in omega arith
+
+      neither : (Long ≡ Short) ⊎ (¬ (Add ≡ Add) × ¬ (Add ≡ Sub)) → ⊥
+      neither (inl e) = long-short e
+      neither (inr h) = h .0 refl
+
+      neither-sub : (Long ≡ Short) ⊎ (¬ (Sub ≡ Add) × ¬ (Sub ≡ Sub)) → ⊥
+      neither-sub (inl e) = long-short e
+      neither-sub (inr h) = h .1 refl
 
   pub refusals-told : OfRefusals R i a
   unfolding effect arithmetic role load store storeAt reading readingBoth isNever isMixed

@@ -9,8 +9,7 @@ use lib.ListN.{length, set, getD, length-set}
 use lib.Seq.{getD-set-same, getD-set-other}
 use lib.Dec.{eqb}
 use Rattle.word.specs.declared.Operation.{Operation}
-use Rattle.word.specs.declared.Operation.the-variants.{Add, Sub, Mul, Div, Or, And, Lsh, Rsh, Mod, Xor, Mov, Arsh}
-use Rattle.word.specs.declared.Operation.the-variants as operation
+use Rattle.word.specs.declared.Operation.the-variants.{Add, Mov}
 use Rattle.machine.specs.declared.instruction.Width.{Width}
 use Rattle.machine.specs.declared.instruction.Width.the-variants.{Long, Short}
 use Rattle.machine.specs.declared.instruction.Operand.{Operand}
@@ -36,6 +35,7 @@ use Rattle.analysis.specs.Effects.{isNever, isMixed, reading, readingBot
 use Rattle.analysis.specs.Form.{instruction}
 use Rattle.analysis.specs.Judged.{having, withOperand, along, apply}
 use Rattle.analysis.specs.Promise.{known, WayOut, OfArithmetic, OfMemory, OfWays, OfRegisters, Sentences}
+use Rattle.analysis.proofs.Roles.{by-role}
 use Rattle.analysis.proofs.Literal.{along-possible, along-excluded}
 use Rattle.analysis.proofs.Reasons.{refusals-told}
 use Rattle.analysis.proofs.Eleven.{Eleven, known-eleven}
@@ -43,33 +43,10 @@ use Rattle.analysis.proofs.Eleven.{Eleven, known-eleven}
 -- ---- arithmetic
 calculation-told : (R i : ℕ) (a : Facts) (d : ℕ) (s : Operand) → eqb d 10 ≡ false → (w : Width) (op : Operation) (x y : Number) → ¬ (op ≡ Mov)
     → valueOf a d ≡ Plain x → operandOf a s ≡ Plain y → effect R i a (Alu w op d s) ≡ Put d (Plain (computed (bits w) op x y))
-unfolding effect arithmetic role readingBoth isNever isMixed calculate sum difference put bits
-calculation-told R i a d s keeps Long Add x y n p q = rw (p, q, keeps) refl
-calculation-told R i a d s keeps Long Sub x y n p q = rw (p, q, keeps) refl
-calculation-told R i a d s keeps Long Mul x y n p q = rw (p, q, keeps) refl
-calculation-told R i a d s keeps Long Div x y n p q = rw (p, q, keeps) refl
-calculation-told R i a d s keeps Long Or x y n p q = rw (p, q, keeps) refl
-calculation-told R i a d s keeps Long And x y n p q = rw (p, q, keeps) refl
-calculation-told R i a d s keeps Long Lsh x y n p q = rw (p, q, keeps) refl
-calculation-told R i a d s keeps Long Rsh x y n p q = rw (p, q, keeps) refl
-calculation-told R i a d s keeps Long operation.Neg x y n p q = rw (p, q, keeps) refl
-calculation-told R i a d s keeps Long Mod x y n p q = rw (p, q, keeps) refl
-calculation-told R i a d s keeps Long Xor x y n p q = rw (p, q, keeps) refl
-calculation-told R i a d s keeps Long Mov x y n p q = absurd (n refl)
-calculation-told R i a d s keeps Long Arsh x y n p q = rw (p, q, keeps) refl
-calculation-told R i a d s keeps Short Add x y n p q = rw (p, q, keeps) refl
-calculation-told R i a d s keeps Short Sub x y n p q = rw (p, q, keeps) refl
-calculation-told R i a d s keeps Short Mul x y n p q = rw (p, q, keeps) refl
-calculation-told R i a d s keeps Short Div x y n p q = rw (p, q, keeps) refl
-calculation-told R i a d s keeps Short Or x y n p q = rw (p, q, keeps) refl
-calculation-told R i a d s keeps Short And x y n p q = rw (p, q, keeps) refl
-calculation-told R i a d s keeps Short Lsh x y n p q = rw (p, q, keeps) refl
-calculation-told R i a d s keeps Short Rsh x y n p q = rw (p, q, keeps) refl
-calculation-told R i a d s keeps Short operation.Neg x y n p q = rw (p, q, keeps) refl
-calculation-told R i a d s keeps Short Mod x y n p q = rw (p, q, keeps) refl
-calculation-told R i a d s keeps Short Xor x y n p q = rw (p, q, keeps) refl
-calculation-told R i a d s keeps Short Mov x y n p q = absurd (n refl)
-calculation-told R i a d s keeps Short Arsh x y n p q = rw (p, q, keeps) refl
+unfolding effect arithmetic readingBoth isNever isMixed calculate sum difference put bits
+calculation-told R i a d s keeps w op x y n p q =
+    by-role (λ v o r. ¬ (o ≡ Mov) → arithmetic r (bits v) o d (valueOf a d) (operandOf a s) ≡ Put d (Plain (computed (bits v) o x y)))
+    (λ m. rw (p, q, keeps) refl) (λ m. rw (p, q, keeps) refl) (λ m. absurd (m refl)) (λ m. absurd (m refl)) (λ v o e m. rw (p, q, keeps) refl) w op n
 
 arithmetic-told : (R i : ℕ) (a : Facts) (d : ℕ) (s : Operand) → eqb d 10 ≡ false → OfArithmetic R i a d s
 unfolding effect arithmetic role reading readingBoth isNever isMixed calculate sum difference put bits

@@ -12,7 +12,7 @@ use lib.Dec.{eqb, leb}
 use borrow.Author.Tests.{leb-true, le-leb, lt-leb}
 use Rattle.word.specs.Word.{cut, alu, compare, readBytes, writeBytes}
 use Rattle.word.specs.declared.Operation.{Operation}
-use Rattle.word.specs.declared.Operation.the-variants.{Add, Sub, Mul, Div, Or, And, Lsh, Rsh, Mod, Xor, Mov, Arsh}
+use Rattle.word.specs.declared.Operation.the-variants.{Add, Sub, Mov}
 use Rattle.word.specs.declared.Operation.the-variants as operation
 use Rattle.word.specs.declared.Comparison.{Comparison}
 use Rattle.machine.specs.declared.instruction.Width.{Width}
@@ -31,6 +31,7 @@ use Rattle.analysis.specs.declared.Region.{Region}
 use Rattle.analysis.specs.declared.Region.the-variants.{Record, Stack}
 use Rattle.analysis.specs.Effects.{role, limit}
 use Rattle.analysis.specs.Form.{instruction}
+use Rattle.analysis.proofs.Roles.{by-role}
 use Rattle.analysis.proofs.LayoutFree.{Cell, unset, number, offset, Config, Course, stuck, ends, goes, cellOf, operandCell, putCell, copied, calculated, summed, subtracted, worked, region, loadedAt, loaded, storedAt, stored, jumpedTo, forked, exited, free}
 
 pub map-set : {A B : Type 0} (f : A → B) (l : List A) (i : ℕ) (a : A) → map f (set l i a) ≡ set (map f l) i (f a)
@@ -194,33 +195,11 @@ module _ (w : World) where
 
   alu-same : (c : Config) (wd : Width) (op : Operation) (d : ℕ) (s : Operand)
       → Same (worked (role wd op) (bits wd) op c d (cellOf c d) (operandCell c s)) (obey w (concrete c) (Alu wd op d s))
-  unfolding worked role bits readsDst
-  alu-same c Long Add d s = summed-same c d s _ _ refl refl
-  alu-same c Long Sub d s = subtracted-same c d s _ _ refl refl
-  alu-same c Long Mul d s = calculated-same c Long Mul d s refl _ _ refl refl
-  alu-same c Long Div d s = calculated-same c Long Div d s refl _ _ refl refl
-  alu-same c Long Or d s = calculated-same c Long Or d s refl _ _ refl refl
-  alu-same c Long And d s = calculated-same c Long And d s refl _ _ refl refl
-  alu-same c Long Lsh d s = calculated-same c Long Lsh d s refl _ _ refl refl
-  alu-same c Long Rsh d s = calculated-same c Long Rsh d s refl _ _ refl refl
-  alu-same c Long operation.Neg d s = calculated-same c Long operation.Neg d s refl _ _ refl refl
-  alu-same c Long Mod d s = calculated-same c Long Mod d s refl _ _ refl refl
-  alu-same c Long Xor d s = calculated-same c Long Xor d s refl _ _ refl refl
-  alu-same c Long Mov d s = copied-same c d s _ refl
-  alu-same c Long Arsh d s = calculated-same c Long Arsh d s refl _ _ refl refl
-  alu-same c Short Add d s = calculated-same c Short Add d s refl _ _ refl refl
-  alu-same c Short Sub d s = calculated-same c Short Sub d s refl _ _ refl refl
-  alu-same c Short Mul d s = calculated-same c Short Mul d s refl _ _ refl refl
-  alu-same c Short Div d s = calculated-same c Short Div d s refl _ _ refl refl
-  alu-same c Short Or d s = calculated-same c Short Or d s refl _ _ refl refl
-  alu-same c Short And d s = calculated-same c Short And d s refl _ _ refl refl
-  alu-same c Short Lsh d s = calculated-same c Short Lsh d s refl _ _ refl refl
-  alu-same c Short Rsh d s = calculated-same c Short Rsh d s refl _ _ refl refl
-  alu-same c Short operation.Neg d s = calculated-same c Short operation.Neg d s refl _ _ refl refl
-  alu-same c Short Mod d s = calculated-same c Short Mod d s refl _ _ refl refl
-  alu-same c Short Xor d s = calculated-same c Short Xor d s refl _ _ refl refl
-  alu-same c Short Mov d s = converted-same c d s _ refl
-  alu-same c Short Arsh d s = calculated-same c Short Arsh d s refl _ _ refl refl
+  unfolding worked bits
+  alu-same c wd op d s =
+      by-role (λ v o r. Same (worked r (bits v) o c d (cellOf c d) (operandCell c s)) (obey w (concrete c) (Alu v o d s)))
+      (summed-same c d s _ _ refl refl) (subtracted-same c d s _ _ refl refl) (copied-same c d s _ refl) (converted-same c d s _ refl)
+      (λ v o e. calculated-same c v o d s (e d) _ _ refl refl) wd op
 
   neg-same : (c : Config) (wd : Width) (d : ℕ) (x : Cell) → cellOf c d ≡ x
       → Same (calculated (bits wd) operation.Neg c d x x) (obey w (concrete c) (Neg wd d))

@@ -7,8 +7,7 @@ use mathlib.Core.Option.{none, some}
 use Prim.Native.Nat.{ℕ, _+_, _*_, _^_, _<_}
 use lib.ListN.{getD}
 use Rattle.word.specs.declared.Operation.{Operation}
-use Rattle.word.specs.declared.Operation.the-variants as operation
-use Rattle.word.specs.declared.Operation.the-variants.{Add, Sub, Mul, Div, Or, And, Lsh, Rsh, Mod, Xor, Mov, Arsh}
+use Rattle.word.specs.declared.Operation.the-variants.{Add, Sub, Mov}
 use Rattle.word.specs.declared.Comparison.{Comparison}
 use Rattle.word.specs.Word.{alu, compare}
 use Rattle.word.proofs.Cut.{cut-64}
@@ -31,6 +30,8 @@ use Rattle.analysis.specs.Values.{Facts, valueOf, operandOf}
 use Rattle.analysis.specs.Effects.{isNever, isMixed, reading, readingBoth, put, role, calculate, sum, difference, arithmetic, told, fork}
 use Rattle.analysis.specs.Judged.{Waiting, Progress, halted, onward, having, withOperand, along, apply, send, andThen, distribute}
 use Rattle.analysis.proofs.ExactEffects.{set-get}
+use Rattle.analysis.proofs.Roles.{by-role}
+use Rattle.analysis.proofs.Sound.{wide}
 use Rattle.verifier.specs.declared.Step.{Step}
 use Rattle.waiting.specs.declared.value.Held.{Held}
 use Rattle.waiting.specs.declared.value.Single.{Single}
@@ -56,33 +57,11 @@ module _ (d x y : ℕ) (hx : x < 2 ^ 64) (hy : y < 2 ^ 64) where
 
   pub known-numbers-are-calculated : (width : Width) (op : Operation)
       → arithmetic (role width op) (bits width) op d (Plain (exact x)) (Plain (exact y)) ≡ put d (Plain (exact (alu (bits width) op x y)))
-  unfolding arithmetic role bits reading readingBoth isNever isMixed calculate sum difference alu
-  known-numbers-are-calculated Long Add = calculated 64 (inl refl) Add
-  known-numbers-are-calculated Long Sub = calculated 64 (inl refl) Sub
-  known-numbers-are-calculated Long Mul = calculated 64 (inl refl) Mul
-  known-numbers-are-calculated Long Div = calculated 64 (inl refl) Div
-  known-numbers-are-calculated Long Or = calculated 64 (inl refl) Or
-  known-numbers-are-calculated Long And = calculated 64 (inl refl) And
-  known-numbers-are-calculated Long Lsh = calculated 64 (inl refl) Lsh
-  known-numbers-are-calculated Long Rsh = calculated 64 (inl refl) Rsh
-  known-numbers-are-calculated Long operation.Neg = calculated 64 (inl refl) operation.Neg
-  known-numbers-are-calculated Long Mod = calculated 64 (inl refl) Mod
-  known-numbers-are-calculated Long Xor = calculated 64 (inl refl) Xor
-  known-numbers-are-calculated Long Mov = ap (λ z. put d (Plain (exact z))) (sym (cut-64 hy))
-  known-numbers-are-calculated Long Arsh = calculated 64 (inl refl) Arsh
-  known-numbers-are-calculated Short Add = calculated 32 (inr refl) Add
-  known-numbers-are-calculated Short Sub = calculated 32 (inr refl) Sub
-  known-numbers-are-calculated Short Mul = calculated 32 (inr refl) Mul
-  known-numbers-are-calculated Short Div = calculated 32 (inr refl) Div
-  known-numbers-are-calculated Short Or = calculated 32 (inr refl) Or
-  known-numbers-are-calculated Short And = calculated 32 (inr refl) And
-  known-numbers-are-calculated Short Lsh = calculated 32 (inr refl) Lsh
-  known-numbers-are-calculated Short Rsh = calculated 32 (inr refl) Rsh
-  known-numbers-are-calculated Short operation.Neg = calculated 32 (inr refl) operation.Neg
-  known-numbers-are-calculated Short Mod = calculated 32 (inr refl) Mod
-  known-numbers-are-calculated Short Xor = calculated 32 (inr refl) Xor
-  known-numbers-are-calculated Short Mov = ap (λ n. put d (Plain n)) (computed-exact 32 (inr refl) Mov y y hy hy)
-  known-numbers-are-calculated Short Arsh = calculated 32 (inr refl) Arsh
+  unfolding arithmetic bits reading readingBoth isNever isMixed calculate sum difference alu
+  known-numbers-are-calculated =
+      by-role (λ v o r. arithmetic r (bits v) o d (Plain (exact x)) (Plain (exact y)) ≡ put d (Plain (exact (alu (bits v) o x y))))
+      (calculated 64 (inl refl) Add) (calculated 64 (inl refl) Sub) (ap (λ z. put d (Plain (exact z))) (sym (cut-64 hy)))
+      (ap (λ n. put d (Plain n)) (computed-exact 32 (inr refl) Mov y y hy hy)) (λ v o e. calculated (bits v) (wide v) o)
 
   pub what-words-make : (width : Width) (op : Operation) (u v : Value) (z : ℕ) (n : Number) (h : Held) (e : Effect) → u ≡ Plain (exact x) → v ≡ Plain (exact y)
       → z ≡ alu (bits width) op x y → n ≡ exact z → heldIn h ≡ Plain n → e ≡ put d (heldIn h) → e ≡ arithmetic (role width op) (bits width) op d u v
