@@ -34,8 +34,8 @@ use Rattle.analysis.specs.declared.Effect.{Effect}
 use Rattle.analysis.specs.declared.Effect.the-variants.{Refuse, Put, Keep, Fork, Goto, Stop}
 use Rattle.analysis.specs.Values.{Facts, valueOf, operandOf, startFacts, sameRegion, joinedGone, joinedValue, joinedValues, joinedFacts}
 use Rattle.analysis.specs.Effects.{isNever, isMixed, reading, readingBoth, put, role, calculate, sum, difference, arithmetic, limit, load, storeAt, store, told, fork, exit, effect}
-use Rattle.analysis.specs.Form.{instruction, offOf, goesBack, goesOut, mayBeLast, goesOn}
-use Rattle.analysis.specs.Judged.{having, withOperand, along, apply}
+use Rattle.analysis.specs.Form.{reasonNumber, instruction, offOf, goesBack, goesOut, mayBeLast, goesOn}
+use Rattle.analysis.specs.Judged.{onValues, having, withOperand, along, apply}
 use Rattle.analysis.specs.Promise.{known, WayOut, OfForm, OfArithmetic, OfMemory, OfWays, OfRegisters, Sentences}
 use Rattle.analysis.proofs.Literal.{along-possible, along-excluded}
 use Rattle.analysis.proofs.Reasons.{refusals-told}
@@ -43,7 +43,7 @@ use Rattle.analysis.proofs.Eleven.{Eleven, known-eleven}
 
 -- ---- form
 form-told : OfForm
-unfolding instruction offOf goesOn mayBeLast goesBack goesOut
+unfolding instruction offOf goesOn mayBeLast goesBack goesOut reasonNumber onValues
 form-told =
     record {
       decoded = λ program i. refl;
@@ -57,6 +57,9 @@ form-told =
       back = λ off. (leb-true (2 ^ 63) off, le-leb (2 ^ 63) off);
       out = λ n i off. (leb-true n (i + 1 + off), le-leb n (i + 1 + off));
       nowhere = λ n i. (refl, refl);
+      numbers-of-form = (refl, refl, refl, refl, refl, refl, refl);
+      numbers-of-values = (refl, refl, refl);
+      for-values = (refl, refl, refl);
     }
 
 -- ---- arithmetic

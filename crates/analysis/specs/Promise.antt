@@ -30,7 +30,7 @@ use Rattle.number.specs.Compare.{refined}
 use Rattle.number.specs.Halves.{refined32}
 use Rattle.number.specs.Demanded.{Demanded}
 use Rattle.analysis.specs.declared.Reason.{Reason}
-use Rattle.analysis.specs.declared.Reason.the-variants.{BadLength, LongRecord, ReadsUnset, Outside, LeaksAddress, DeadCode}
+use Rattle.analysis.specs.declared.Reason.the-variants.{BadLength, LongRecord, NoCode, WritesR10, JumpsBack, JumpsOut, ReadsUnset, Outside, LeaksAddress, DeadCode}
 use Rattle.analysis.specs.declared.Finding.{Finding}
 use Rattle.analysis.specs.declared.Finding.the-variants.{Accepted, Refused}
 use Rattle.analysis.specs.declared.Judged.{Judged}
@@ -116,7 +116,7 @@ pub record WayOut (a : Facts) (d : ℕ) (s : Operand) (x y : Number) (o : Option
   pub first : d < length (a .registers) → (s ≡ Register d → ⊥) → valueOf facts d ≡ Plain x
   pub as-many : length (facts .registers) ≡ length (a .registers)
 
--- what an instruction is for the tests on form: the bytes decoded, its jump, and whether it goes on to the next
+-- what the tests on form see of an instruction: the bytes decoded, its jump, and whether it goes on to the next; and what they answer
 pub record OfForm : Type 0 where
   pub decoded : (program : List ℕ) (i : ℕ) → instruction program i ≡ decode program (i * 8)
   pub conditional-jumps : (w : Width) (c : Comparison) (d : ℕ) (s : Operand) (off : ℕ)
@@ -134,6 +134,11 @@ pub record OfForm : Type 0 where
   pub back : (off : ℕ) → (goesBack (some off) ≡ true) ↔ (2 ^ 63 ≤ off)
   pub out : (n i off : ℕ) → (goesOut n i (some off) ≡ true) ↔ (n ≤ i + 1 + off)
   pub nowhere : (n i : ℕ) → (goesBack none ≡ false) × (goesOut n i none ≡ false)
+  -- the numbers of the reasons, and those that are for values
+  pub numbers-of-form : (reasonNumber BadLength ≡ 1) × (reasonNumber LongRecord ≡ 2) × (reasonNumber NoCode ≡ 3) × (reasonNumber WritesR10 ≡ 4)
+      × (reasonNumber JumpsBack ≡ 5) × (reasonNumber JumpsOut ≡ 6) × (reasonNumber DeadCode ≡ 12)
+  pub numbers-of-values : (reasonNumber ReadsUnset ≡ 7) × (reasonNumber Outside ≡ 8) × (reasonNumber LeaksAddress ≡ 9)
+  pub for-values : (onValues ReadsUnset ≡ true) × (onValues Outside ≡ true) × (onValues LeaksAddress ≡ true)
 
 -- plain numbers: each operation gives what `number` has of it, at its width
 pub record OfArithmetic (R i : ℕ) (a : Facts) (d : ℕ) (s : Operand) : Type 0 where
