@@ -3,11 +3,12 @@ use mathlib.Core.Path.{_≡_, refl, sym, ap, _∙_, subst}
 use mathlib.Core.Bool.{Bool, true, false, cond}
 use mathlib.Core.List.{List, [], _∷_}
 use mathlib.Core.Option.{Option, none, some}
-use Prim.Native.Nat.{ℕ, zero, suc, _+_, _≤_, _<_}
+use Prim.Native.Nat.{ℕ, zero, suc, _+_, _^_, _≤_, _<_}
 use native.Mathlib.Omega.{arith}
 use lib.ListN.{length, set, getD, length-set}
 use lib.Seq.{getD-set-same, getD-set-other}
 use lib.Dec.{eqb}
+use borrow.Author.Tests.{leb-true, le-leb}
 use Rattle.word.specs.declared.Operation.{Operation}
 use Rattle.word.specs.declared.Operation.the-variants.{Add, Mov}
 use Rattle.machine.specs.declared.instruction.Width.{Width}
@@ -32,13 +33,34 @@ use Rattle.analysis.specs.declared.Effect.{Effect}
 use Rattle.analysis.specs.declared.Effect.the-variants.{Refuse, Put, Keep, Fork, Goto, Stop}
 use Rattle.analysis.specs.Values.{Facts, valueOf, operandOf, startFacts, sameRegion, joinedGone, joinedValue, joinedValues, joinedFacts}
 use Rattle.analysis.specs.Effects.{isNever, isMixed, reading, readingBoth, put, role, calculate, sum, difference, arithmetic, limit, load, storeAt, store, told, fork, exit, effect}
-use Rattle.analysis.specs.Form.{instruction}
-use Rattle.analysis.specs.Judged.{having, withOperand, along, apply}
-use Rattle.analysis.specs.Promise.{known, WayOut, OfArithmetic, OfMemory, OfWays, OfRegisters, Sentences}
+use Rattle.analysis.specs.Form.{reasonNumber, instruction, offOf, goesBack, goesOut, mayBeLast, goesOn}
+use Rattle.analysis.specs.Judged.{onValues, having, withOperand, along, apply}
+use Rattle.analysis.specs.Promise.{known, WayOut, OfForm, OfArithmetic, OfMemory, OfWays, OfRegisters, Sentences}
 use Rattle.analysis.proofs.Roles.{by-role}
 use Rattle.analysis.proofs.Literal.{along-possible, along-excluded}
 use Rattle.analysis.proofs.Reasons.{refusals-told}
 use Rattle.analysis.proofs.Eleven.{Eleven, known-eleven}
+
+-- ---- form
+form-told : OfForm
+unfolding instruction offOf goesOn mayBeLast goesBack goesOut reasonNumber onValues
+form-told =
+    record {
+      decoded = λ program i. refl;
+      conditional-jumps = λ w c d s off. (refl, refl, refl);
+      always-jumps = λ off. (refl, refl, refl);
+      exit-ends = (refl, refl, refl);
+      calculation-goes-on = λ w op d s. (refl, refl, refl);
+      negation-goes-on = λ w d. (refl, refl, refl);
+      load-goes-on = λ z d s off. (refl, refl, refl);
+      store-goes-on = λ z d off s. (refl, refl, refl);
+      back = λ off. (leb-true (2 ^ 63) off, le-leb (2 ^ 63) off);
+      out = λ n i off. (leb-true n (i + 1 + off), le-leb n (i + 1 + off));
+      nowhere = λ n i. (refl, refl);
+      numbers-of-form = (refl, refl, refl, refl, refl, refl, refl);
+      numbers-of-values = (refl, refl, refl);
+      for-values = (refl, refl, refl);
+    }
 
 -- ---- arithmetic
 calculation-told : (R i : ℕ) (a : Facts) (d : ℕ) (s : Operand) → eqb d 10 ≡ false → (w : Width) (op : Operation) (x y : Number) → ¬ (op ≡ Mov)
@@ -171,6 +193,7 @@ pub sentences-told : Sentences
 unfolding valueOf startFacts known
 sentences-told =
     record {
+      form = form-told;
       arithmetic = arithmetic-told;
       memory = memory-told;
       refusals = refusals-told;

@@ -7,7 +7,7 @@ use mathlib.Core.Logic.{_⊎_, _↔_}
 use mathlib.Core.Bool.{Bool, true, false, cond}
 use mathlib.Core.List.{List}
 use mathlib.Core.Option.{Option, none, some}
-use Prim.Native.Nat.{ℕ, zero, suc, _+_, _*_, _/_, _≤_, _<_}
+use Prim.Native.Nat.{ℕ, zero, suc, _+_, _*_, _/_, _^_, _≤_, _<_}
 use lib.ListN.{length}
 use lib.Dec.{eqb}
 use Rattle.word.specs.declared.Operation.{Operation}
@@ -20,6 +20,7 @@ use Rattle.machine.specs.declared.instruction.Size.{Size}
 use Rattle.machine.specs.declared.instruction.Operand.{Operand}
 use Rattle.machine.specs.declared.instruction.Operand.the-variants.{Immediate, Register}
 use Rattle.machine.specs.declared.instruction.Instruction.the-variants.{Alu, Neg, Jump, Always, Exit, Load, Store}
+use Rattle.machine.specs.Instruction.{decode}
 use Rattle.machine.specs.Machine.{bits, bytes, badProgram, badRecord}
 use Rattle.number.specs.declared.Number.{Number}
 use Rattle.number.specs.declared.Refined.the-variants.{Excluded, Possible}
@@ -29,7 +30,7 @@ use Rattle.number.specs.Compare.{refined}
 use Rattle.number.specs.Halves.{refined32}
 use Rattle.number.specs.Demanded.{Demanded}
 use Rattle.analysis.specs.declared.Reason.{Reason}
-use Rattle.analysis.specs.declared.Reason.the-variants.{BadLength, LongRecord, ReadsUnset, Outside, LeaksAddress, DeadCode}
+use Rattle.analysis.specs.declared.Reason.the-variants.{BadLength, LongRecord, NoCode, WritesR10, JumpsBack, JumpsOut, ReadsUnset, Outside, LeaksAddress, DeadCode}
 use Rattle.analysis.specs.declared.Finding.{Finding}
 use Rattle.analysis.specs.declared.Finding.the-variants.{Accepted, Refused}
 use Rattle.analysis.specs.declared.Judged.{Judged}
@@ -42,7 +43,7 @@ use Rattle.analysis.specs.declared.Effect.{Effect}
 use Rattle.analysis.specs.declared.Effect.the-variants.{Refuse, Put, Keep, Stop}
 use Rattle.analysis.specs.Values.{Facts, valueOf, operandOf, startFacts, joinedValue, joinedFacts}
 use Rattle.analysis.specs.Effects.{told, effect}
-use Rattle.analysis.specs.Form.{reasonNumber, instruction, Orderly, HasForm, FirstFailure, Dead}
+use Rattle.analysis.specs.Form.{reasonNumber, instruction, offOf, goesBack, goesOut, mayBeLast, goesOn, Orderly, HasForm, FirstFailure, Dead}
 use Rattle.analysis.specs.Judged.{onValues, having, along, Flow, refuses, flows, apply}
 use Rattle.analysis.specs.Safe.{Safe}
 
@@ -114,6 +115,30 @@ pub record WayOut (a : Facts) (d : ℕ) (s : Operand) (x y : Number) (o : Option
   pub second : (r : ℕ) → s ≡ Register r → r < length (a .registers) → valueOf facts r ≡ Plain y
   pub first : d < length (a .registers) → (s ≡ Register d → ⊥) → valueOf facts d ≡ Plain x
   pub as-many : length (facts .registers) ≡ length (a .registers)
+
+-- what the tests on form see of an instruction: the bytes decoded, its jump, and whether it goes on to the next; and what they answer
+pub record OfForm : Type 0 where
+  pub decoded : (program : List ℕ) (i : ℕ) → instruction program i ≡ decode program (i * 8)
+  pub conditional-jumps : (w : Width) (c : Comparison) (d : ℕ) (s : Operand) (off : ℕ)
+      → (offOf (Jump w c d s off) ≡ some off) × (goesOn (Jump w c d s off) ≡ true) × (mayBeLast (Jump w c d s off) ≡ false)
+  pub always-jumps : (off : ℕ) → (offOf (Always off) ≡ some off) × (goesOn (Always off) ≡ false) × (mayBeLast (Always off) ≡ true)
+  pub exit-ends : (offOf Exit ≡ none) × (goesOn Exit ≡ false) × (mayBeLast Exit ≡ true)
+  pub calculation-goes-on : (w : Width) (op : Operation) (d : ℕ) (s : Operand)
+      → (offOf (Alu w op d s) ≡ none) × (goesOn (Alu w op d s) ≡ true) × (mayBeLast (Alu w op d s) ≡ false)
+  pub negation-goes-on : (w : Width) (d : ℕ) → (offOf (Neg w d) ≡ none) × (goesOn (Neg w d) ≡ true) × (mayBeLast (Neg w d) ≡ false)
+  pub load-goes-on : (z : Size) (d s off : ℕ)
+      → (offOf (Load z d s off) ≡ none) × (goesOn (Load z d s off) ≡ true) × (mayBeLast (Load z d s off) ≡ false)
+  pub store-goes-on : (z : Size) (d off : ℕ) (s : Operand)
+      → (offOf (Store z d off s) ≡ none) × (goesOn (Store z d off s) ≡ true) × (mayBeLast (Store z d off s) ≡ false)
+  -- back is an off with its sign set; out is a target that is no index of n
+  pub back : (off : ℕ) → (goesBack (some off) ≡ true) ↔ (2 ^ 63 ≤ off)
+  pub out : (n i off : ℕ) → (goesOut n i (some off) ≡ true) ↔ (n ≤ i + 1 + off)
+  pub nowhere : (n i : ℕ) → (goesBack none ≡ false) × (goesOut n i none ≡ false)
+  -- the numbers of the reasons, and those that are for values
+  pub numbers-of-form : (reasonNumber BadLength ≡ 1) × (reasonNumber LongRecord ≡ 2) × (reasonNumber NoCode ≡ 3) × (reasonNumber WritesR10 ≡ 4)
+      × (reasonNumber JumpsBack ≡ 5) × (reasonNumber JumpsOut ≡ 6) × (reasonNumber DeadCode ≡ 12)
+  pub numbers-of-values : (reasonNumber ReadsUnset ≡ 7) × (reasonNumber Outside ≡ 8) × (reasonNumber LeaksAddress ≡ 9)
+  pub for-values : (onValues ReadsUnset ≡ true) × (onValues Outside ≡ true) × (onValues LeaksAddress ≡ true)
 
 -- plain numbers: each operation gives what `number` has of it, at its width
 pub record OfArithmetic (R i : ℕ) (a : Facts) (d : ℕ) (s : Operand) : Type 0 where
@@ -231,6 +256,7 @@ pub record OfRegisters (a : Facts) : Type 0 where
 
 -- all of it, with what is demanded of Numbers
 pub record Sentences : Type 0 where
+  pub form : OfForm
   pub arithmetic : (R i : ℕ) (a : Facts) (d : ℕ) (s : Operand) → eqb d 10 ≡ false → OfArithmetic R i a d s
   pub memory : (R i : ℕ) (a : Facts) (z : Size) (o : Number) (off : ℕ) → OfMemory R i a z o off
   pub refusals : (R i : ℕ) (a : Facts) → OfRefusals R i a
