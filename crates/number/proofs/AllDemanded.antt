@@ -23,7 +23,7 @@ use Rattle.number.proofs.HalvesAgainstKnown.{excluded32-if-none-goes, r
 use Rattle.number.proofs.HalvesBoth.{refined32-low-ranges, refined32-signed}
 use Rattle.number.proofs.HalvesWithin.{refined32-low-bits, excluded32-by-bits, set32-not-taken-clears}
 use Rattle.number.proofs.Known.{joined-covers-left, joined-covers-right, joined-range-is, joined-bits-best}
-use Rattle.number.proofs.PowersAndShifts.{calculated-quotient-by-power, calculated-rest-by-power, shift-by-one-of-two-best}
+use Rattle.number.proofs.PowersAndShifts.{calculated-quotient-by-power, calculated-rest-by-power, shift-by-one-of-two-best, left-by-more}
 use Rattle.number.proofs.Shorter.{computed-rest-below-the-divisor, computed-and-at-most-the-first, computed-and-at-most-the-second}
 use Rattle.number.proofs.SumLaws.{sum-within, difference-within, sum-ends, difference-ends}
 use Rattle.number.proofs.Tightness.{product-range-tightest, quotient-range-tightest, left-range-tightest, right-range-tightest}
@@ -40,6 +40,7 @@ operations =
       quotient-by-power = calculated-quotient-by-power;
       rest-by-power = calculated-rest-by-power;
       shift-by-one-of-two = shift-by-one-of-two-best;
+      left-by-more = left-by-more;
       sum-within = sum-within;
       difference-within = difference-within;
       range-within = computed-range-within;

@@ -137,6 +137,10 @@ pub record OfOperations : Type 0 where
   -- a shift by a count that is one of two: the best pair
   pub shift-by-one-of-two : (w : ℕ) → Wide w → (op : Operation) → IsShift op → (a b : Bits) → Well 64 a → Well 64 b
       → ¬ (b .mask % w ≡ 0) → bitAnd (b .mask % w) (b .mask % w - 1) ≡ 0 → Best 64 (Results w op a b) (calculated w op a b)
+  -- by any other count: the low zeros of the number, and as many as the least count
+  pub left-by-more : (w : ℕ) → Wide w → (a b : Bits) (i k : ℕ) → ¬ (low w b .mask % w ≡ 0) → ¬ (bitAnd (low w b .mask % w) (low w b .mask % w - 1) ≡ 0)
+      → top (low w a) % 2 ^ i ≡ 0 → k < i + low w b .value % w → k < 64
+      → (bit k (calculated w Lsh a b .value) ≡ 0) × (bit k (calculated w Lsh a b .mask) ≡ 0)
   -- the range of a sum and of a difference that cannot wrap: the exact sum and difference of the ends
   pub sum-within : (w : ℕ) → Wide w → (a b : Number) (x y : ℕ) → In a x → In b y → a .range .hi + b .range .hi < 2 ^ w
       → RangeWithin (computed w Add a b .range) (record { lo = a .range .lo + b .range .lo; hi = a .range .hi + b .range .hi })
