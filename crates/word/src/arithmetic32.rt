@@ -1,5 +1,7 @@
 // The operations of class 4, on 32 bits: both operands are cut first, and the upper half of the result is 0.
 // Each contract is a line of `alu 32`.
+#![tactic(auto, unfolding(crate::specs::Word::alu, crate::specs::Word::cut, crate::specs::Word::shift_signed))]
+
 ghost use Rattle.std.specs.Prelude.{◌≡◌, ℕ};
 ghost use Rattle.word.specs.Word.{alu};
 

@@ -1,5 +1,7 @@
 // The operations of class 7, on 64 bits.
 // Each contract is a line of `alu 64`.
+#![tactic(auto, unfolding(crate::specs::Word::alu, crate::specs::Word::cut, crate::specs::Word::shift_signed))]
+
 ghost use Rattle.std.specs.Prelude.{◌≡◌, ℕ};
 ghost use Rattle.word.specs.Word.{alu};
 

@@ -1,5 +1,7 @@
 // Words of 64 and 32 bits: the operations and the comparisons that the machine has and the analysis speaks of.
 // Each function gives what `specs/Word.antt` defines for its width, on any two words.
+#![tactic(auto)]
+
 pub mod arithmetic32;
 pub mod arithmetic64;
 pub mod by_name;

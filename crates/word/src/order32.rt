@@ -1,5 +1,7 @@
 // The comparisons of the low 32 bits; the S forms take bit 31 as the sign.
 // Each contract is a line of `compare 32`.
+#![tactic(auto, unfolding(crate::specs::Word::compare, crate::specs::Word::cut, crate::specs::Word::moved))]
+
 ghost use Rattle.std.specs.Prelude.{◌≡◌};
 ghost use Rattle.word.specs.Word.{compare, cut, moved};
 

@@ -1,5 +1,7 @@
 // The comparisons, on 64 bits.
 // Each contract is a line of `compare 64`.
+#![tactic(auto, unfolding(crate::specs::Word::compare, crate::specs::Word::cut, crate::specs::Word::moved))]
+
 ghost use Rattle.std.specs.Prelude.{◌≡◌};
 ghost use Rattle.word.specs.Word.{compare, cut, moved};
 

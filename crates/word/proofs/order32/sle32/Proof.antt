@@ -1,9 +1,0 @@
--- `sle32` is `compare 32` at `Sle`. Both sides are moved alike.
-use Rattle.std.proofs.Common.{rules}
-use Rattle.word.specs.Word.{compare}
-use Rattle.word.proofs.order32.sle32.Statement.{statement}
-use Rattle.word.proofs.order32.sle32.Tie as tie
-
-pub sle32_spec : {M : Type 1} → statement M
-unfolding compare
-sle32_spec = tie.close (tie.spec (λ c κs. search rules) (λ c κs. search rules) (λ c. cc))

@@ -1,9 +1,0 @@
--- `slt32` is `compare 32` at `Slt`. Both sides are moved alike.
-use Rattle.std.proofs.Common.{rules}
-use Rattle.word.specs.Word.{compare}
-use Rattle.word.proofs.order32.slt32.Statement.{statement}
-use Rattle.word.proofs.order32.slt32.Tie as tie
-
-pub slt32_spec : {M : Type 1} → statement M
-unfolding compare
-slt32_spec = tie.close (tie.spec (λ c κs. search rules) (λ c κs. search rules) (λ c. cc))
