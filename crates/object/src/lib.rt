@@ -14,7 +14,7 @@ mod names;
 mod table;
 
 // Where the program's bytes lie, or what is wrong: each answer has what was found in place of what is meant.
-#[derive(Drop)]
+#[derive(Clone, Copy)]
 pub enum Section {
     At { start: usize, length: usize },
     NotElf,
