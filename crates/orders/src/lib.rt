@@ -27,13 +27,13 @@ pub use manual::help;
 pub use message::complain;
 
 // A piece of the arguments.
-#[derive(Drop)]
+#[derive(Clone, Copy)]
 pub struct Span {
     pub start: usize,
     pub end: usize,
 }
 
-#[derive(Drop)]
+#[derive(Clone, Copy)]
 pub enum Verb {
     Verify,
     Explain,
@@ -41,7 +41,7 @@ pub enum Verb {
     Show,
 }
 
-#[derive(Drop)]
+#[derive(Clone, Copy)]
 pub enum Topic {
     Whole,
     Of(Verb),
@@ -50,7 +50,7 @@ pub enum Topic {
 }
 
 // What is to be done. An empty section: none was named.
-#[derive(Drop)]
+#[derive(Clone, Copy)]
 pub struct Order {
     pub verb: Verb,
     pub file: Span,
