@@ -1,5 +1,6 @@
 // Known bits: a pair value/mask stands for the numbers that agree with value outside mask. Types only: what is done with them is defined
 // in specs/, proved of the definitions in proofs/, and computed by the crate `bit_calculator`.
+#![tactic(auto)]
 
 #[derive(Drop)]
 pub struct Bits {
