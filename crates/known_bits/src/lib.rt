@@ -2,7 +2,7 @@
 // in specs/, proved of the definitions in proofs/, and computed by the crate `bit_calculator`.
 #![tactic(auto)]
 
-#[derive(Drop)]
+#[derive(Clone, Copy)]
 pub struct Bits {
     pub value: u64,
     pub mask: u64,
@@ -15,7 +15,7 @@ pub enum Learnt {
     Nothing,
 }
 
-#[derive(Drop)]
+#[derive(Clone, Copy)]
 pub enum Shift {
     Left,
     Right,

@@ -5,13 +5,13 @@
 use known_bits::Bits;
 
 // The numbers from lo to hi; none where hi is below lo.
-#[derive(Drop)]
+#[derive(Clone, Copy)]
 pub struct Range {
     pub lo: u64,
     pub hi: u64,
 }
 
-#[derive(Drop)]
+#[derive(Clone, Copy)]
 pub struct Number {
     pub bits: Bits,
     pub range: Range,
