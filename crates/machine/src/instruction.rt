@@ -10,14 +10,14 @@ use word::sign::{extend16, extend32};
 use word::{Comparison, Operation};
 
 // Classes 7 and 5 work on 64 bits, classes 4 and 6 on the low 32.
-#[derive(Drop)]
+#[derive(Clone, Copy)]
 pub enum Width {
     Long,
     Short,
 }
 
 // How many bytes a load or a store moves.
-#[derive(Drop)]
+#[derive(Clone, Copy)]
 pub enum Size {
     One,
     Two,
@@ -26,7 +26,7 @@ pub enum Size {
 }
 
 // The second operand: imm, extended with its sign to 64 bits, or a register.
-#[derive(Drop)]
+#[derive(Clone, Copy)]
 pub enum Operand {
     Immediate(u64),
     Register(u64),

@@ -92,7 +92,7 @@ fn get(m: &[u8], i: usize, size: Size) -> u64
 
 // What a load at the address a finds, in the record or in the stack.
 pub fn load(rec: &[u8], stack: &[u8], p: u64, s: u64, a: u64, size: Size) -> Loaded
-    ensures { result ≡ loaded (record { rec = rec.entry.now; P = p; S = s }) stack.now a size }
+    ensures { result ≡ loaded (record { rec = rec.now; P = p; S = s }) stack.now a size }
 {
     let n = byte_count(size);
     match locate(p, rec.len(), a, n) {

@@ -1,7 +1,7 @@
 // What a run comes to.
 
 // Why an instruction is not carried out.
-#[derive(Drop)]
+#[derive(Clone, Copy)]
 pub enum Cause {
     BadCode,
     OffEnd,
