@@ -33,7 +33,7 @@ pub enum Operand {
 }
 
 // `off` is extended with its sign to 64 bits.
-#[derive(Drop)]
+#[derive(Clone, Copy)]
 pub enum Instruction {
     Alu {
         width: Width,
@@ -72,7 +72,7 @@ pub enum Instruction {
 }
 
 // The fields of eight bytes, off and imm without their signs.
-#[derive(Drop)]
+#[derive(Clone, Copy)]
 pub struct Parts {
     pub opcode: u8,
     pub dst: u64,

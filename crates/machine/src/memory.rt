@@ -7,14 +7,14 @@ ghost use Rattle.machine.specs.Machine.{World, bytes, within, loaded};
 use crate::instruction::Size;
 
 // What a load finds.
-#[derive(Drop)]
+#[derive(Clone, Copy)]
 pub enum Loaded {
     Value(u64),
     Nowhere,
 }
 
 // Where in a buffer an access lies.
-#[derive(Drop)]
+#[derive(Clone, Copy)]
 pub enum Place {
     At(usize),
     Outside,

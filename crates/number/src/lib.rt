@@ -3,20 +3,20 @@
 use known_bits::Bits;
 
 // The numbers from lo to hi; none where hi is below lo.
-#[derive(Drop)]
+#[derive(Clone, Copy)]
 pub struct Range {
     pub lo: u64,
     pub hi: u64,
 }
 
-#[derive(Drop)]
+#[derive(Clone, Copy)]
 pub struct Number {
     pub bits: Bits,
     pub range: Range,
 }
 
 // What is left of two numbers on a way out of their comparison: none goes it, or each is sharper.
-#[derive(Drop)]
+#[derive(Clone, Copy)]
 pub enum Refined {
     Excluded,
     Possible(Number, Number),
