@@ -9,7 +9,7 @@ pub struct Bits {
 }
 
 // What a way out of a comparison tells of a pair: a sharper one, or that no number of it goes that way.
-#[derive(Drop)]
+#[derive(Clone, Copy)]
 pub enum Learnt {
     Pair(Bits),
     Nothing,

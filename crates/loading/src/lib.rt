@@ -12,7 +12,7 @@ mod trouble;
 pub use trouble::complain;
 
 // What the file holds, where it is told.
-#[derive(Drop)]
+#[derive(Clone, Copy)]
 pub enum Kind {
     Guess,
     Raw,
@@ -21,7 +21,7 @@ pub enum Kind {
 }
 
 // Where the program's bytes are: in the file, or at the start of the buffer for spelled ones. Or what is wrong.
-#[derive(Drop)]
+#[derive(Clone, Copy)]
 pub enum Loaded {
     InFile { start: usize, end: usize },
     Spelled { length: usize },

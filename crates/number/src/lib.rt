@@ -18,7 +18,7 @@ pub struct Number {
 }
 
 // What is left of two numbers on a way out of their comparison: none goes it, or each is sharper.
-#[derive(Drop)]
+#[derive(Clone, Copy)]
 pub enum Refined {
     Excluded,
     Possible(Number, Number),

@@ -12,7 +12,7 @@ mod names;
 mod table;
 
 // Where the program's bytes lie, or what is wrong: each answer has what was found in place of what is meant.
-#[derive(Drop)]
+#[derive(Clone, Copy)]
 pub enum Section {
     At { start: usize, length: usize },
     NotElf,
@@ -34,7 +34,7 @@ pub enum Section {
 }
 
 // Where a name lies in the file.
-#[derive(Drop)]
+#[derive(Clone, Copy)]
 pub enum Name {
     At { start: usize, length: usize },
     None,

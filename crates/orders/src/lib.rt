@@ -25,13 +25,13 @@ pub use manual::help;
 pub use message::complain;
 
 // A piece of the arguments.
-#[derive(Drop)]
+#[derive(Clone, Copy)]
 pub struct Span {
     pub start: usize,
     pub end: usize,
 }
 
-#[derive(Drop)]
+#[derive(Clone, Copy)]
 pub enum Verb {
     Verify,
     Explain,
@@ -39,7 +39,7 @@ pub enum Verb {
     Show,
 }
 
-#[derive(Drop)]
+#[derive(Clone, Copy)]
 pub enum Topic {
     Whole,
     Of(Verb),
@@ -48,7 +48,7 @@ pub enum Topic {
 }
 
 // What is to be done. An empty section: none was named.
-#[derive(Drop)]
+#[derive(Clone, Copy)]
 pub struct Order {
     pub verb: Verb,
     pub file: Span,
@@ -65,7 +65,7 @@ pub struct Order {
 // What is wrong: a number of `fault`.
 pub type Fault = u64;
 
-#[derive(Drop)]
+#[derive(Clone, Copy)]
 pub enum Parsed {
     Do(Order),
     HelpOn(Topic),

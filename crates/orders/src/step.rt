@@ -15,7 +15,7 @@ use text::number::{Number, read_number};
 use text::scan::find;
 
 // What the words so far say: the next word's index, the options seen, and their values.
-#[derive(Drop)]
+#[derive(Clone, Copy)]
 pub struct Progress {
     pub next: usize,
     pub seen: u64,
@@ -28,7 +28,7 @@ pub struct Progress {
     pub budget: u64,
 }
 
-#[derive(Drop)]
+#[derive(Clone, Copy)]
 pub enum Step {
     Go(Progress),
     Help,

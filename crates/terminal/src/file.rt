@@ -6,7 +6,7 @@ use text::page::{write_decimal, write_text};
 use text::scan::same;
 
 // Whether a file could be read, and how many bytes were.
-#[derive(Drop)]
+#[derive(Clone, Copy)]
 pub struct Input {
     pub read: bool,
     pub count: usize,

@@ -6,7 +6,7 @@ ghost use Rattle.text.specs.Dump.{Bare, Dumped, Unspelled, commented, kept, line
 use crate::digit::value_of;
 use crate::hex::{Bytes, read_pairs};
 
-#[derive(Drop)]
+#[derive(Clone, Copy)]
 pub enum Dump {
     Are(usize),
     BadLetter { at: usize },
