@@ -1,5 +1,5 @@
 -- `access`: an arm is its format's law at its opcode, and what the opcode means computes. Printed by tools/obey.
-use Rattle.std.proofs.Common.{ℕ, Bool, ◌++◌, refl}
+use Rattle.std.proofs.Common.{ℕ, Bool, ◌++◌, refl, rules}
 use Rattle.machine.specs.declared.instruction.Size.TheVariants.{One, Two, Four, Eight}
 use Rattle.word.specs.Word.{cut, extend}
 use Rattle.machine.specs.Instruction.{reads_dst, only, lookup, with_operand, operations, arithmetic, by_class, comparisons, jump, loads, stores_of_imm, stores_of_src, load, store_of_imm, store_of_src, meaning}
@@ -104,4 +104,4 @@ unfolding of_access of_calculate_more of_calculate of_obey undecoded
 returns-in_default c =
     no_arm _ _ _ _ _ c.args.op c.args.dst c.args.src c.args.off c.args.imm c.requires.regs_len
     (default_holds undecoded 256 (of_access ++ of_calculate_more ++ of_calculate ++ of_obey) refl c.args.op c.ranges.op.fits
-    (no_key (Unit {0}) of_access (of_calculate_more ++ of_calculate ++ of_obey) _ c.in_default.in_default-own.rest c.requires.none_of.none))
+    (no_key (Unit {0}) of_access (of_calculate_more ++ of_calculate ++ of_obey) c.args.op (search rules) c.requires.none_of.none))

@@ -1,5 +1,5 @@
 -- `calculate`: an arm is its format's law at its opcode, and what the opcode means computes. Printed by tools/obey.
-use Rattle.std.proofs.Common.{refl}
+use Rattle.std.proofs.Common.{refl, rules}
 use Rattle.word.specs.declared.Operation.TheVariants.{Add, Sub, Mul, Div, Or, And}
 use Rattle.machine.specs.declared.instruction.Width.TheVariants.{Long, Short}
 use Rattle.machine.specs.Instruction.{reads_dst, only, lookup, with_operand, operations, arithmetic, by_class}
@@ -180,4 +180,4 @@ returns-in-95 c =
 pub calculate_more-requires-clause-none_of : goal.calculate_more-requires-clause-none_of
 unfolding of_calculate
 calculate_more-requires-clause-none_of c =
-    record { none = no_key (Unit {0}) of_calculate (of_obey) _ c.in_default.in_default-own.rest c.requires.none_of.none }
+    record { none = no_key (Unit {0}) of_calculate (of_obey) c.args.op (search rules) c.requires.none_of.none }

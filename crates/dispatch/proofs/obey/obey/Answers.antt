@@ -1,5 +1,5 @@
 -- `obey`: an arm is its format's law at its opcode, and what the opcode means computes. Printed by tools/obey.
-use Rattle.std.proofs.Common.{[], refl}
+use Rattle.std.proofs.Common.{[], refl, rules}
 use Rattle.word.specs.declared.Comparison.TheVariants.{Eq, Gt, Ge, Set, Ne, Sgt, Sge, Lt, Le, Slt, Sle}
 use Rattle.machine.specs.declared.instruction.Width.TheVariants.{Long, Short}
 use Rattle.machine.specs.Instruction.{only, lookup, with_operand, by_class, comparisons, jump}
@@ -334,4 +334,4 @@ returns-in-222 c =
 pub calculate-requires-clause-none_of : goal.calculate-requires-clause-none_of
 unfolding of_obey
 calculate-requires-clause-none_of c =
-    record { none = no_key (Unit {0}) of_obey [] _ c.in_default.in_default-own.rest refl }
+    record { none = no_key (Unit {0}) of_obey [] c.args.op (search rules) refl }
