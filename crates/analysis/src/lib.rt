@@ -1,10 +1,12 @@
 // What the analysis knows of a program's values, and what it answers. Types only: the analysis is defined in specs/ and computed by the
 // crate `verifier`.
+#![tactic(auto)]
+
 use machine::instruction::Operand;
 use number::{Number, Refined};
 
 // Why a program is refused, in the order of the numbers in docs/VERIFIER.md.
-#[derive(Drop)]
+#[derive(Clone, Copy)]
 pub enum Reason {
     BadLength,
     LongRecord,
@@ -18,41 +20,41 @@ pub enum Reason {
     DeadCode,
 }
 
-#[derive(Drop)]
+#[derive(Clone, Copy)]
 pub enum Finding {
     Accepted,
     Refused { reason: Reason, place: u64 },
 }
 
 // The finding, and how much was done for it: instructions looked at, and values of registers copied or joined.
-#[derive(Drop)]
+#[derive(Clone, Copy)]
 pub struct Judged {
     pub finding: Finding,
     pub work: u64,
 }
 
 // What a verifier says of a program that is given to it with memory to work in.
-#[derive(Drop)]
+#[derive(Clone, Copy)]
 pub enum Answer {
     Judgement(Judged),
     ScratchTooSmall { words: u64 },
 }
 
-#[derive(Drop)]
+#[derive(Clone, Copy)]
 pub enum Region {
     Record,
     Stack,
 }
 
 // Why a register may not be used: it is unset on some path, or paths with different kinds of values joined.
-#[derive(Drop)]
+#[derive(Clone, Copy)]
 pub enum Gone {
     Never,
     Mixed,
 }
 
 // A plain number, or an address as its distance from where the region starts, modulo 2^64.
-#[derive(Drop)]
+#[derive(Clone, Copy)]
 pub enum Value {
     Unusable(Gone),
     Plain(Number),
@@ -61,7 +63,7 @@ pub enum Value {
 
 // What an instruction does: it is refused; a register gets a value; nothing changes; it forks, with what is left of the two operands on
 // either way; it goes to a target; it stops.
-#[derive(Drop)]
+#[derive(Clone, Copy)]
 pub enum Effect {
     Refuse(Reason),
     Put {

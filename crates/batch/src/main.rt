@@ -7,14 +7,14 @@ use text::scan::find;
 use waiting::MOST_WORDS;
 
 // Where the first line to be answered starts, and whether the line that was too long goes on past what was read.
-#[derive(Drop)]
+#[derive(Clone, Copy)]
 struct Front {
     from: usize,
     long: bool,
 }
 
 // How many bytes of a line stand at the front of the window, and whether a line that was too long goes on past them.
-#[derive(Drop)]
+#[derive(Clone, Copy)]
 struct Held {
     count: usize,
     long: bool,

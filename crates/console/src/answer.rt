@@ -19,7 +19,7 @@ use text::buffer::{put, put_decimal, put_hexadecimal, put_text};
 pub const LONGEST: usize = 70000;
 
 // What a request comes to.
-#[derive(Drop)]
+#[derive(Clone, Copy)]
 pub enum Reply {
     Ran(Outcome),
     Pair(Bits),

@@ -14,40 +14,40 @@ use text::table::position_of;
 use word::Operation;
 
 // What is done with the pairs.
-#[derive(Drop)]
+#[derive(Clone, Copy)]
 pub enum Task {
     Alu(Operation),
     Join,
     Cut,
 }
 
-#[derive(Drop)]
+#[derive(Clone, Copy)]
 pub enum Tasks {
     Is(Task),
     Not,
 }
 
-#[derive(Drop)]
+#[derive(Clone, Copy)]
 pub enum Width {
     Full,
     Half,
 }
 
-#[derive(Drop)]
+#[derive(Clone, Copy)]
 pub enum Widths {
     Is(Width),
     Not,
 }
 
 // A pair of the right form: no bit is in both numbers.
-#[derive(Drop)]
+#[derive(Clone, Copy)]
 pub enum Known {
     Is(Bits),
     Not,
 }
 
 // All that a request says.
-#[derive(Drop)]
+#[derive(Clone, Copy)]
 pub enum Asked {
     For {
         task: Task,

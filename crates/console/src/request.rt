@@ -10,14 +10,14 @@ use text::number::{Number, read_decimal, read_number};
 use text::scan::{find, same, skip};
 
 // A word's place: from `start` up to `end`. Where no word is left both are the line's length.
-#[derive(Drop)]
+#[derive(Clone, Copy)]
 pub struct Word {
     pub start: usize,
     pub end: usize,
 }
 
 // The numbers of `run`, in their order.
-#[derive(Drop)]
+#[derive(Clone, Copy)]
 pub enum Numbers {
     Are {
         size: u64,
@@ -29,7 +29,7 @@ pub enum Numbers {
 }
 
 // How many bytes the program and the record of `run` have.
-#[derive(Drop)]
+#[derive(Clone, Copy)]
 pub enum Sizes {
     Are { program: usize, rec: usize },
     Not,

@@ -1,5 +1,5 @@
 -- How an answer leads on: a fault, whatever its cause, a test that passes, an effect.
-use Rattle.std.proofs.Common.{◌≡◌, ℕ, ◌+◌, ◌-◌, ◌%◌, ◌^◌, ◌<◌, Bool, true, false, cond, not, ◌||◌, List, [], length, set, sym, refl, ap, ◌∙◌, subst, true≢false, lit<}
+use Rattle.std.proofs.Common.{◌≡◌, ℕ, ◌+◌, ◌-◌, ◌%◌, ◌^◌, ◌<◌, Bool, true, false, cond, not, ◌||◌, List, [], length, sym, refl, ap, ◌∙◌, subst, true≢false, lit<}
 use Rattle.word.specs.Word.{write_bytes}
 use Rattle.machine.specs.declared.outcome.Cause.{Cause}
 use Rattle.machine.specs.declared.outcome.Cause.TheVariants.{BadCode, Unset, WriteR10, BadAccess}

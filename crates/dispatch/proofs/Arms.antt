@@ -1,6 +1,6 @@
 -- One law a format: the answer of its function leads to what the machine does with the instruction that the fields mean.
 -- An arm of the match cites it with its opcode, and the table's line computes.
-use Rattle.std.proofs.Common.{◌≡◌, ℕ, ◌^◌, ◌<◌, ◌≤◌, Bool, true, false, cond, not, ◌&&◌, ◌||◌, eqb, leb, List, [], ◌∷◌, length, get_or, sym, refl, ap, ◌∙◌, ap₂, true≢false, arith, eq-eqb, ne_eqb, le-leb}
+use Rattle.std.proofs.Common.{◌≡◌, ℕ, ◌^◌, ◌<◌, ◌≤◌, Bool, true, false, not, ◌&&◌, ◌||◌, eqb, leb, List, [], ◌∷◌, length, get_or, sym, refl, ap, ◌∙◌, ap₂, true≢false, arith, eq-eqb, ne_eqb, le-leb}
 use mathlib.Core.Bool.{or-false, or-true, and-false}
 use native.Mathlib.Decide.{dec_lt}
 use borrow.Author.Tests.{lt-leb}
@@ -10,12 +10,11 @@ use Rattle.word.specs.declared.Operation.TheVariants as operation
 use Rattle.word.specs.declared.Comparison.{Comparison}
 use Rattle.machine.specs.declared.instruction.Width.{Width}
 use Rattle.machine.specs.declared.instruction.Size.{Size}
-use Rattle.machine.specs.declared.instruction.Operand.{Operand}
 use Rattle.machine.specs.declared.instruction.Operand.TheVariants.{Immediate, Register}
 use Rattle.machine.specs.declared.instruction.Instruction.{Instruction}
-use Rattle.machine.specs.declared.instruction.Instruction.TheVariants.{Alu, Neg, Jump, Always, Exit, Load, Store, NoInstruction}
+use Rattle.machine.specs.declared.instruction.Instruction.TheVariants.{Alu, Neg, Jump, Always, Exit, Load, Store}
 use Rattle.machine.specs.Instruction.{Fields, only, by_class, meaning, reads_operand, reads_dst, reads, writes}
-use Rattle.machine.specs.Machine.{World, State, After, goes, ends, faults, Unset, value, operand_value, put, jumped, bits, address, loaded, after_load, after_store, effect, is_no_instruction, names10, any_unset, obey}
+use Rattle.machine.specs.Machine.{World, State, After, goes, ends, faults, value, operand_value, put, jumped, bits, address, loaded, after_load, after_store, effect, is_no_instruction, names10, any_unset, obey}
 use Rattle.machine.specs.declared.outcome.Cause.TheVariants.{BadCode}
 use Rattle.machine.proofs.Opcodes.{fields_of_opcode, opcode_suffices}
 use Rattle.dispatch.specs.declared.answer.Next.{Next}

@@ -3,20 +3,19 @@
 use Rattle.std.proofs.Common.{◌≡◌, ℕ, ◌+◌, ◌*◌, ◌/◌, ◌^◌, ◌<◌, ◌≤◌, Bool, true, false, cond, not, ◌||◌, eqb, leb, List, [], ◌∷◌, ◌++◌, length, sym, refl, ap, ◌∙◌, ap₂, arith, le-leb}
 use mathlib.Core.Bool.{or-false, or_assoc}
 use borrow.Author.Tests.{lt-leb}
-use denote.Enum.Declared.{tag_of}
-use types.Run.{OneOf, miss}
 use Rattle.word.specs.declared.Operation.{Operation}
 use Rattle.word.specs.declared.Operation.TheVariants.{Add, Sub, Mul, Div, Or, And, Lsh, Rsh, Mod, Xor, Mov, Arsh}
 use Rattle.word.specs.declared.Operation.TheVariants as operation
-use Rattle.word.specs.contracts.Operation as operations
+use Rattle.word.specs.declared.Comparison.{Comparison}
+use Rattle.machine.specs.declared.instruction.Width.{Width}
 use Rattle.machine.specs.declared.instruction.Size.{Size}
+use Rattle.machine.specs.declared.instruction.Operand.{Operand}
 use Rattle.machine.specs.declared.instruction.Instruction.{Instruction}
 use Rattle.machine.specs.declared.instruction.Instruction.TheVariants.{Alu, Neg, Jump, Always, Exit, Load, Store, NoInstruction}
 use Rattle.machine.specs.declared.memory.Loaded.{Loaded}
 use Rattle.machine.specs.declared.memory.Loaded.TheVariants.{Value, Nowhere}
 use Rattle.machine.specs.declared.outcome.Cause.{Cause}
 use Rattle.machine.specs.declared.outcome.Cause.TheVariants.{BadCode, OffEnd, Unset, WriteR10, BadAccess}
-use Rattle.machine.specs.contracts.instruction.Instruction as instruction
 use Rattle.machine.specs.Instruction.{decode, reads_dst, reads, writes}
 use Rattle.machine.specs.Machine.{World, State, After, goes, faults, value, operand_value, address, loaded, after_load, after_store, within, bytes, effect, is_no_instruction, names10, any_unset, obey, step}
 use Rattle.dispatch.specs.Represent.{is_set, state_of, unset_in, cause_at}
@@ -25,10 +24,7 @@ use Rattle.dispatch.proofs.Registers.{is_unset_lem}
 -- ---- what is read
 
 module _ (live : ℕ) where
-  abbrev all_but_mov : List ℕ
-  all_but_mov = 0 ∷ 1 ∷ 2 ∷ 3 ∷ 4 ∷ 5 ∷ 6 ∷ 7 ∷ 8 ∷ 9 ∷ 10 ∷ 12 ∷ []
-
-  pub dst_is_read : (op : Operation) (d : ℕ) → OneOf all_but_mov (tag_of operations.the_type op) → not (is_set live d) ≡ unset_in live (reads_dst op d)
+  pub dst_is_read : (op : Operation) (d : ℕ) → (op ≡ Mov → ⊥) → not (is_set live d) ≡ unset_in live (reads_dst op d)
   unfolding unset_in reads_dst
   dst_is_read Add d h = sym (or-false _)
   dst_is_read Sub d h = sym (or-false _)
@@ -41,7 +37,7 @@ module _ (live : ℕ) where
   dst_is_read operation.Neg d h = sym (or-false _)
   dst_is_read Mod d h = sym (or-false _)
   dst_is_read Xor d h = sym (or-false _)
-  dst_is_read Mov d h = absurd (miss all_but_mov 11 (tt {0}) h)
+  dst_is_read Mov d h = absurd (h refl)
   dst_is_read Arsh d h = sym (or-false _)
 
   pub unset_both : (xs ys : List ℕ) → unset_in live (xs ++ ys) ≡ unset_in live xs || unset_in live ys
@@ -70,7 +66,7 @@ module _ (live : ℕ) where
 
 -- ---- the arms of a match that are not written out
 
-pub some_instruction : (i : Instruction) → OneOf (0 ∷ 1 ∷ 2 ∷ 3 ∷ 4 ∷ 5 ∷ 6 ∷ []) (tag_of instruction.the_type i) → false ≡ is_no_instruction i
+pub some_instruction : (i : Instruction) → (i ≡ NoInstruction → ⊥) → false ≡ is_no_instruction i
 unfolding is_no_instruction
 some_instruction (Alu w op d s) h = refl
 some_instruction (Neg w d) h = refl
@@ -79,29 +75,32 @@ some_instruction (Always off) h = refl
 some_instruction Exit h = refl
 some_instruction (Load z d s off) h = refl
 some_instruction (Store z d off s) h = refl
-some_instruction NoInstruction h = absurd (miss (0 ∷ 1 ∷ 2 ∷ 3 ∷ 4 ∷ 5 ∷ 6 ∷ []) 7 (tt {0}) h)
+some_instruction NoInstruction h = absurd (h refl)
 
-pub writes_no_register : (i : Instruction) → OneOf (2 ∷ 3 ∷ 4 ∷ 6 ∷ 7 ∷ []) (tag_of instruction.the_type i) → false ≡ names10 (writes i)
+pub writes_no_register : (i : Instruction) → ((w : Width) (op : Operation) (d : ℕ) (s : Operand) → i ≡ Alu w op d s → ⊥) → ((w : Width) (d : ℕ) → i ≡ Neg w d → ⊥)
+    → ((z : Size) (d s off : ℕ) → i ≡ Load z d s off → ⊥) → false ≡ names10 (writes i)
 unfolding writes names10
-writes_no_register (Alu w op d s) h = absurd (miss (2 ∷ 3 ∷ 4 ∷ 6 ∷ 7 ∷ []) 0 (tt {0}) h)
-writes_no_register (Neg w d) h = absurd (miss (2 ∷ 3 ∷ 4 ∷ 6 ∷ 7 ∷ []) 1 (tt {0}) h)
-writes_no_register (Jump w k d s off) h = refl
-writes_no_register (Always off) h = refl
-writes_no_register Exit h = refl
-writes_no_register (Load z d s off) h = absurd (miss (2 ∷ 3 ∷ 4 ∷ 6 ∷ 7 ∷ []) 5 (tt {0}) h)
-writes_no_register (Store z d off s) h = refl
-writes_no_register NoInstruction h = refl
+writes_no_register (Alu w op d s) alu neg load = absurd (alu w op d s refl)
+writes_no_register (Neg w d) alu neg load = absurd (neg w d refl)
+writes_no_register (Jump w k d s off) alu neg load = refl
+writes_no_register (Always off) alu neg load = refl
+writes_no_register Exit alu neg load = refl
+writes_no_register (Load z d s off) alu neg load = absurd (load z d s off refl)
+writes_no_register (Store z d off s) alu neg load = refl
+writes_no_register NoInstruction alu neg load = refl
 
-pub reads_no_register : (live : ℕ) (i : Instruction) → OneOf (3 ∷ 7 ∷ []) (tag_of instruction.the_type i) → false ≡ unset_in live (reads i)
+pub reads_no_register : (live : ℕ) (i : Instruction) → ((w : Width) (op : Operation) (d : ℕ) (s : Operand) → i ≡ Alu w op d s → ⊥) → ((w : Width) (d : ℕ) → i ≡ Neg w d → ⊥)
+    → ((w : Width) (k : Comparison) (d : ℕ) (s : Operand) (off : ℕ) → i ≡ Jump w k d s off → ⊥) → (i ≡ Exit → ⊥) → ((z : Size) (d s off : ℕ) → i ≡ Load z d s off → ⊥)
+    → ((z : Size) (d off : ℕ) (s : Operand) → i ≡ Store z d off s → ⊥) → false ≡ unset_in live (reads i)
 unfolding reads unset_in
-reads_no_register live (Alu w op d s) h = absurd (miss (3 ∷ 7 ∷ []) 0 (tt {0}) h)
-reads_no_register live (Neg w d) h = absurd (miss (3 ∷ 7 ∷ []) 1 (tt {0}) h)
-reads_no_register live (Jump w k d s off) h = absurd (miss (3 ∷ 7 ∷ []) 2 (tt {0}) h)
-reads_no_register live (Always off) h = refl
-reads_no_register live Exit h = absurd (miss (3 ∷ 7 ∷ []) 4 (tt {0}) h)
-reads_no_register live (Load z d s off) h = absurd (miss (3 ∷ 7 ∷ []) 5 (tt {0}) h)
-reads_no_register live (Store z d off s) h = absurd (miss (3 ∷ 7 ∷ []) 6 (tt {0}) h)
-reads_no_register live NoInstruction h = refl
+reads_no_register live (Alu w op d s) alu neg jump exit load store = absurd (alu w op d s refl)
+reads_no_register live (Neg w d) alu neg jump exit load store = absurd (neg w d refl)
+reads_no_register live (Jump w k d s off) alu neg jump exit load store = absurd (jump w k d s off refl)
+reads_no_register live (Always off) alu neg jump exit load store = refl
+reads_no_register live Exit alu neg jump exit load store = absurd (exit refl)
+reads_no_register live (Load z d s off) alu neg jump exit load store = absurd (load z d s off refl)
+reads_no_register live (Store z d off s) alu neg jump exit load store = absurd (store z d off s refl)
+reads_no_register live NoInstruction alu neg jump exit load store = refl
 
 pub writes_one : (d : ℕ) → eqb d 10 ≡ names10 (d ∷ [])
 unfolding names10

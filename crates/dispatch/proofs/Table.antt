@@ -1,5 +1,5 @@
 -- What the default arm of a match on numbers is told, and a rule at every number without an arm: one test that antt computes.
-use Rattle.std.proofs.Common.{◌≡◌, ℕ, zero, suc, ◌<◌, Bool, true, false, ◌&&◌, ◌||◌, eqb, List, [], ◌∷◌, ◌++◌, sym, refl, ap, ◌∙◌, subst, not-suc-le-zero, arith, ne_eqb}
+use Rattle.std.proofs.Common.{◌≡◌, ℕ, zero, suc, ◌<◌, Bool, true, false, ◌&&◌, ◌||◌, List, [], ◌∷◌, ◌++◌, sym, refl, ap, ◌∙◌, not-suc-le-zero, arith, ne_eqb}
 use native.Mathlib.Decide.{dec_lt}
 use mir.Val.{has_key}
 

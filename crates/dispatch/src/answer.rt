@@ -4,7 +4,7 @@ ghost use Rattle.dispatch.specs.Represent.{is_set};
 
 // What obeying an instruction leads to: the next index, with the mask of the registers that are set; a verdict; a fault, whose
 // cause `why` finds once the run has stopped, so that no step carries one.
-#[derive(Drop)]
+#[derive(Clone, Copy)]
 pub enum Next {
     Go { pc: u64, live: u64 },
     Exit(u64),

@@ -30,7 +30,7 @@ pub fn load_into(
     requires regs_len { length regs.old ≡ 16 }
     requires kept { Kept live pc }
     requires dst_bound { (dst < 16) × (src < 16) }
-    ensures { LeadsOn result regs.old regs.new stack.now stack.now live pc (λ t. guarded (imm == 0) (nat_le 10 dst) (not (is_set live src)) (after_load t dst (loaded (record { rec = rec.entry.now; P = p; S = s }) stack.now (address y (extend 16 off)) size))) }
+    ensures { LeadsOn result regs.old regs.new stack.now stack.now live pc (λ t. guarded (imm == 0) (nat_le 10 dst) (not (is_set live src)) (after_load t dst (loaded (record { rec = rec.now; P = p; S = s }) stack.now (address y (extend 16 off)) size))) }
 {
     if !(imm == 0) {
         return Next::Stop;

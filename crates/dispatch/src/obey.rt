@@ -40,7 +40,7 @@ fn access(
     requires kept { Kept live pc }
     requires dst_bound { (dst < 16) × (src < 16) }
     requires none_of { NoneOf (of_calculate_more ++ of_calculate ++ of_obey) op }
-    ensures { LeadsOn result regs.old regs.new stack.old stack.new live pc (λ t. obeyed (record { rec = rec.entry.now; P = p; S = s }) t (meaning (record { opcode = op; dst = dst; src = src; off = off; imm = imm }))) }
+    ensures { LeadsOn result regs.old regs.new stack.old stack.new live pc (λ t. obeyed (record { rec = rec.now; P = p; S = s }) t (meaning (record { opcode = op; dst = dst; src = src; off = off; imm = imm }))) }
 {
     let i = dst as usize;
     let j = src as usize;
@@ -185,7 +185,7 @@ fn calculate_more(
     requires kept { Kept live pc }
     requires dst_bound { (dst < 16) × (src < 16) }
     requires none_of { NoneOf (of_calculate ++ of_obey) op }
-    ensures { LeadsOn result regs.old regs.new stack.old stack.new live pc (λ t. obeyed (record { rec = rec.entry.now; P = p; S = s }) t (meaning (record { opcode = op; dst = dst; src = src; off = off; imm = imm }))) }
+    ensures { LeadsOn result regs.old regs.new stack.old stack.new live pc (λ t. obeyed (record { rec = rec.now; P = p; S = s }) t (meaning (record { opcode = op; dst = dst; src = src; off = off; imm = imm }))) }
 {
     let i = dst as usize;
     let j = src as usize;
@@ -240,7 +240,7 @@ fn calculate(
     requires kept { Kept live pc }
     requires dst_bound { (dst < 16) × (src < 16) }
     requires none_of { NoneOf (of_obey) op }
-    ensures { LeadsOn result regs.old regs.new stack.old stack.new live pc (λ t. obeyed (record { rec = rec.entry.now; P = p; S = s }) t (meaning (record { opcode = op; dst = dst; src = src; off = off; imm = imm }))) }
+    ensures { LeadsOn result regs.old regs.new stack.old stack.new live pc (λ t. obeyed (record { rec = rec.now; P = p; S = s }) t (meaning (record { opcode = op; dst = dst; src = src; off = off; imm = imm }))) }
 {
     let i = dst as usize;
     let j = src as usize;
@@ -292,7 +292,7 @@ pub fn obey(
     requires regs_len { length regs.old ≡ 16 }
     requires kept { Kept live pc }
     requires dst_bound { (dst < 16) × (src < 16) }
-    ensures { LeadsOn result regs.old regs.new stack.old stack.new live pc (λ t. obeyed (record { rec = rec.entry.now; P = p; S = s }) t (meaning (record { opcode = op; dst = dst; src = src; off = off; imm = imm }))) }
+    ensures { LeadsOn result regs.old regs.new stack.old stack.new live pc (λ t. obeyed (record { rec = rec.now; P = p; S = s }) t (meaning (record { opcode = op; dst = dst; src = src; off = off; imm = imm }))) }
 {
     let i = dst as usize;
     let j = src as usize;

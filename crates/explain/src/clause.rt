@@ -80,7 +80,7 @@ pub const TEST_INDEX: u64 = 43;
 pub const INSTEAD: u64 = 44;
 
 // A clause and the numbers in it.
-#[derive(Drop)]
+#[derive(Clone, Copy)]
 pub struct Clause {
     pub entry: u64,
     pub first: u64,
@@ -88,13 +88,13 @@ pub struct Clause {
 }
 
 // What is known of a value, where one is told.
-#[derive(Drop)]
+#[derive(Clone, Copy)]
 pub enum Told {
     Nothing,
     Is(Known),
 }
 
-#[derive(Drop)]
+#[derive(Clone, Copy)]
 pub struct Detail {
     pub before: Clause,
     pub told: Told,

@@ -9,7 +9,7 @@ use text::table::{write_entry, write_filled};
 use verifier::inspect::Deed;
 
 // What is left of the operands on a way: of one register, or of a second one too.
-#[derive(Drop)]
+#[derive(Clone, Copy)]
 struct Left {
     both: bool,
     r: u64,
@@ -115,7 +115,7 @@ fn write_way(
 }
 
 // How an effect starts, and the number in that.
-#[derive(Drop)]
+#[derive(Clone, Copy)]
 struct Start {
     entry: u64,
     number: u64,

@@ -6,7 +6,7 @@ use number::Refined;
 use verifier::inspect::{Deed, effect_at};
 
 // Whether an instruction leads on to the next index, and whether to a target.
-#[derive(Drop)]
+#[derive(Clone, Copy)]
 struct Leads {
     onward: bool,
     there: bool,

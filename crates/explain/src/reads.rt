@@ -7,7 +7,7 @@ ghost use Rattle.explain.specs.Reads.{registers};
 use machine::instruction::{Instruction, Operand};
 use word::Operation;
 
-#[derive(Drop)]
+#[derive(Clone, Copy)]
 pub enum Reads {
     Nobody,
     One(u64),

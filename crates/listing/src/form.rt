@@ -7,7 +7,7 @@ ghost use Rattle.std.specs.Prelude.{◌≤◌, length};
 use crate::words::write_word;
 use text::page::{write_decimal, write_hexadecimal, write_letter, write_text};
 
-#[derive(Drop)]
+#[derive(Clone, Copy)]
 pub struct Form {
     pub entry: u64,
     pub numbers: [u64; 8],

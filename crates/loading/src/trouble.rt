@@ -8,7 +8,7 @@ use text::page::{write_decimal, write_letter, write_text};
 use text::table::{write_entry, write_marked};
 
 // A sentence's number in the table, and the numbers that its first and its second mark stand for.
-#[derive(Drop)]
+#[derive(Clone, Copy)]
 struct Told(u64, u64, u64);
 
 fn told_of_section(section: Section) -> Told {

@@ -1,13 +1,12 @@
 -- The laws by which the fields of an instruction, fetched piece by piece, are those of the definition.
 use mathlib.Core.Path.{◌≡◌}
 use mathlib.Core.List.{List}
-use Prim.Native.Nat.{ℕ, ◌+◌, ◌*◌, ◌/◌, ◌%◌, ◌<◌}
-use native.Mathlib.Nat.{add_assoc}
+use Prim.Native.Nat.{ℕ, ◌+◌, ◌/◌, ◌%◌, ◌<◌}
 use native.Mathlib.Omega.{arith}
 use lib.ListN.{get_or}
 use Rattle.word.specs.Word.{read_bytes}
 use Rattle.word.proofs.Bytes.{read_below, read_splits}
-use Rattle.machine.specs.Instruction.{Fields, fields}
+use Rattle.machine.specs.Instruction.{fields}
 
 module _ (m : List ℕ) (i : ℕ) (byte : (j : ℕ) → get_or m j 0 < 256) where
   -- imm is the upper half of the eight bytes

@@ -1,15 +1,14 @@
 -- The worked programs of docs/MACHINE.md, section 6, as theorems by computation about the definitions.
 -- A program is written as there, eight bytes a numeral.
 use mathlib.Core.Path.{◌≡◌, refl}
-use mathlib.Core.Bool.{cond}
 use mathlib.Core.List.{List, [], ◌∷◌, ◌++◌}
-use Prim.Native.Nat.{ℕ, zero, suc, ◌+◌, ◌-◌, ◌*◌, ◌/◌, ◌%◌, ◌^◌}
+use Prim.Native.Nat.{ℕ, zero, suc, ◌+◌, ◌-◌, ◌/◌, ◌%◌, ◌^◌}
 use Rattle.word.specs.Word.{cut, extend, shift_signed, alu, moved, compare, read_bytes, write_bytes}
 use Rattle.machine.specs.declared.instruction.Instruction.{Instruction}
 use Rattle.machine.specs.declared.instruction.Instruction.TheVariants.{NoInstruction}
-use Rattle.machine.specs.declared.outcome.Cause.TheVariants.{BadCode, OffEnd, Unset, WriteR10, BadAccess}
+use Rattle.machine.specs.declared.outcome.Cause.TheVariants.{OffEnd, Unset, WriteR10, BadAccess}
 use Rattle.machine.specs.declared.outcome.Outcome.{Outcome}
-use Rattle.machine.specs.declared.outcome.Outcome.TheVariants.{Verdict, Fault, Budget, Refused}
+use Rattle.machine.specs.declared.outcome.Outcome.TheVariants.{Verdict, Fault, Budget}
 use Rattle.machine.specs.Instruction.{fields, only, lookup, with_operand, operations, arithmetic, comparisons, jump, loads, stores_of_imm, stores_of_src, load, store_of_imm, store_of_src, by_class, meaning, decode, reads_operand, reads_dst, reads, writes}
 use Rattle.machine.specs.Machine.{content, held, value, operand_value, put, jumped, bits, bytes, address, within, loaded, after_load, after_store, effect, is_no_instruction, names10, is_unset, any_unset, obey, step, next, runs, start, bad_program, bad_record, bad_stack, bad_address, overlap, refused, interpreted}
 

@@ -10,14 +10,14 @@ use word::sign::{extend16, extend32};
 use word::{Comparison, Operation};
 
 // Classes 7 and 5 work on 64 bits, classes 4 and 6 on the low 32.
-#[derive(Drop)]
+#[derive(Clone, Copy)]
 pub enum Width {
     Long,
     Short,
 }
 
 // How many bytes a load or a store moves.
-#[derive(Drop)]
+#[derive(Clone, Copy)]
 pub enum Size {
     One,
     Two,
@@ -26,14 +26,14 @@ pub enum Size {
 }
 
 // The second operand: imm, extended with its sign to 64 bits, or a register.
-#[derive(Drop)]
+#[derive(Clone, Copy)]
 pub enum Operand {
     Immediate(u64),
     Register(u64),
 }
 
 // `off` is extended with its sign to 64 bits.
-#[derive(Drop)]
+#[derive(Clone, Copy)]
 pub enum Instruction {
     Alu {
         width: Width,
@@ -72,7 +72,7 @@ pub enum Instruction {
 }
 
 // The fields of eight bytes, off and imm without their signs.
-#[derive(Drop)]
+#[derive(Clone, Copy)]
 pub struct Parts {
     pub opcode: u8,
     pub dst: u64,

@@ -7,14 +7,14 @@ ghost use Rattle.machine.specs.Machine.{World, bytes, within, loaded};
 use crate::instruction::Size;
 
 // What a load finds.
-#[derive(Drop)]
+#[derive(Clone, Copy)]
 pub enum Loaded {
     Value(u64),
     Nowhere,
 }
 
 // Where in a buffer an access lies.
-#[derive(Drop)]
+#[derive(Clone, Copy)]
 pub enum Place {
     At(usize),
     Outside,
@@ -92,7 +92,7 @@ fn get(m: &[u8], i: usize, size: Size) -> u64
 
 // What a load at the address a finds, in the record or in the stack.
 pub fn load(rec: &[u8], stack: &[u8], p: u64, s: u64, a: u64, size: Size) -> Loaded
-    ensures { result ≡ loaded (record { rec = rec.entry.now; P = p; S = s }) stack.now a size }
+    ensures { result ≡ loaded (record { rec = rec.now; P = p; S = s }) stack.now a size }
 {
     let n = byte_count(size);
     match locate(p, rec.len(), a, n) {

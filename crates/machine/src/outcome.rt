@@ -1,7 +1,7 @@
 // What a run comes to.
 
 // Why an instruction is not carried out.
-#[derive(Drop)]
+#[derive(Clone, Copy)]
 pub enum Cause {
     BadCode,
     OffEnd,
@@ -12,7 +12,7 @@ pub enum Cause {
 
 // How a run ends: with a verdict, at an instruction that faults, with its budget spent, or before the first step.
 // `at` is an index modulo 2^64: a jump back before 0 is off the end.
-#[derive(Drop)]
+#[derive(Clone, Copy)]
 pub enum Outcome {
     Verdict { value: u64, steps: u64 },
     Fault { cause: Cause, at: u64, steps: u64 },

@@ -36,7 +36,7 @@ pub enum Section {
 }
 
 // Where a name lies in the file.
-#[derive(Drop)]
+#[derive(Clone, Copy)]
 pub enum Name {
     At { start: usize, length: usize },
     None,

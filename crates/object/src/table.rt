@@ -6,7 +6,7 @@ use crate::field::{half, long, word};
 use crate::{Section, is_elf};
 
 // The section headers inside of the file, or the answer where there are none.
-#[derive(Drop)]
+#[derive(Clone, Copy)]
 pub enum Table {
     At { start: usize, count: usize },
     Bad(Section),

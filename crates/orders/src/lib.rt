@@ -67,7 +67,7 @@ pub struct Order {
 // What is wrong: a number of `fault`.
 pub type Fault = u64;
 
-#[derive(Drop)]
+#[derive(Clone, Copy)]
 pub enum Parsed {
     Do(Order),
     HelpOn(Topic),

@@ -14,7 +14,7 @@ const STATUSES: u64 = 1;
 
 // The numbers of a page's texts: a verb's own or another page's own, what all verbs that read a probe say of it, the exit statuses, the
 // example behind them.
-#[derive(Drop)]
+#[derive(Clone, Copy)]
 struct Page(u64, u64, u64, u64, u64);
 
 fn page_of_verb(verb: Verb) -> Page {

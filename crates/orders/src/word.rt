@@ -108,7 +108,7 @@ pub fn need_of(verb: Verb) -> u64 {
 }
 
 // What the first word, or the one after `help`, names.
-#[derive(Drop)]
+#[derive(Clone, Copy)]
 pub enum Head {
     Is(Topic),
     Not,

@@ -14,7 +14,7 @@ use text::page::write_text;
 pub const LONGEST_FILE: usize = 524288;
 
 // Whether a program was found, and how many bytes it has.
-#[derive(Drop)]
+#[derive(Clone, Copy)]
 pub struct Fetched {
     pub found: bool,
     pub length: usize,

@@ -4,7 +4,7 @@ ghost use Rattle.text.specs.Hex.{Spelled, paired, spelled};
 
 use crate::digit::value_of;
 
-#[derive(Drop)]
+#[derive(Clone, Copy)]
 pub enum Bytes {
     Are(usize),
     Not,

@@ -4,7 +4,7 @@ ghost use Rattle.text.specs.Number.{number, numeral};
 
 use crate::digit::value_of;
 
-#[derive(Drop)]
+#[derive(Clone, Copy)]
 pub enum Number {
     Is(u64),
     Not,

@@ -5,7 +5,7 @@ ghost use Rattle.text.specs.Pair.{joined, pair};
 use crate::number::{Number, read_hexadecimal};
 use crate::scan::find;
 
-#[derive(Drop)]
+#[derive(Clone, Copy)]
 pub enum Pair {
     Is { first: u64, second: u64 },
     Not,

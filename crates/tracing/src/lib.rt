@@ -16,7 +16,7 @@ pub mod outcome;
 use numbers::write_word;
 
 // How many bytes of text there are, where the run goes on, and why it does not, if it stops.
-#[derive(Drop)]
+#[derive(Clone, Copy)]
 pub struct Traced {
     pub bytes: usize,
     pub next: Next,

@@ -22,7 +22,7 @@ use waiting::value::{Held, Single, Singles, plain};
 use word::{Operation, by_name};
 
 // Code 0 puts held into dst, 1 keeps the state, 2 stops, and any other is a reason's number.
-#[derive(Drop)]
+#[derive(Clone, Copy)]
 pub struct Outcome {
     pub code: u64,
     pub dst: u64,

@@ -10,7 +10,7 @@ use analysis::{Finding, Reason};
 use machine::instruction::parts_at;
 use word::sign::extend16;
 
-#[derive(Drop)]
+#[derive(Clone, Copy)]
 pub enum Tested {
     Good,
     Bad(Reason),

@@ -22,13 +22,13 @@ use waiting::state::register;
 use waiting::value::Held;
 use word::Comparison;
 
-#[derive(Drop)]
+#[derive(Clone, Copy)]
 pub enum Known {
     Unreached,
     Has(Value),
 }
 
-#[derive(Drop)]
+#[derive(Clone, Copy)]
 pub enum Deed {
     Nothing,
     Does(Effect),

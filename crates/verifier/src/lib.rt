@@ -12,7 +12,7 @@ mod ways;
 use analysis::Reason;
 
 // How a step of the pass ends, and how much has been done then.
-#[derive(Drop)]
+#[derive(Clone, Copy)]
 pub enum Step {
     Halt { reason: Reason, work: u64 },
     More { work: u64 },

@@ -8,21 +8,21 @@ use calculator::sharpen::join;
 use number::Number;
 
 // Kind 0 is unset, 1 mixed, 2 a number, 3 an address into the record, and any other an address into the stack.
-#[derive(Drop)]
+#[derive(Clone, Copy)]
 pub struct Held {
     pub kind: u64,
     pub number: Number,
 }
 
 // What the words of a value say: that it is one number, or not so much.
-#[derive(Drop)]
+#[derive(Clone, Copy)]
 pub enum Single {
     One(u64),
     Open,
 }
 
 // And those of two values.
-#[derive(Drop)]
+#[derive(Clone, Copy)]
 pub enum Singles {
     Both { first: u64, second: u64 },
     Open,

@@ -9,7 +9,7 @@ pub mod order32;
 pub mod order64;
 pub mod sign;
 
-#[derive(Drop)]
+#[derive(Clone, Copy)]
 pub enum Operation {
     Add,
     Sub,
@@ -26,7 +26,7 @@ pub enum Operation {
     Arsh,
 }
 
-#[derive(Drop)]
+#[derive(Clone, Copy)]
 pub enum Comparison {
     Eq,
     Gt,

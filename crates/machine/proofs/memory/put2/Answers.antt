@@ -1,0 +1,10 @@
+-- `put2` writes two bytes, lowest first.
+use Rattle.word.specs.Word.{write_bytes}
+use borrow.Author.Rules.{rules}
+use Rattle.machine.proofs.memory.put2.Goals as goal
+
+-- NOTE: 7 old answers, 6 goals
+
+pub returns : goal.returns
+unfolding write_bytes
+returns c = search rules
