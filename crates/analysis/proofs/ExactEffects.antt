@@ -1,17 +1,14 @@
 -- On facts that say exactly what a configuration has, each instruction but a load has an effect that says exactly what the layout-free
 -- machine does.
-use mathlib.Core.Path.{◌≡◌, refl, sym, ap, ap₂, ◌∙◌, subst}
-use mathlib.Core.Bool.{Bool, true, false, cond, not, ◌||◌, true≢false}
-use mathlib.Core.Logic.{◌↔◌, ◌⊎◌, inl, inr, ⊎_elim}
+use mathlib.Core.Path.{◌≡◌, refl, sym, ap, ◌∙◌, subst}
+use mathlib.Core.Bool.{Bool, true, false, cond, true≢false}
+use mathlib.Core.Logic.{◌⊎◌, inl, inr}
 use mathlib.Core.List.{List, [], ◌∷◌, map}
-use mathlib.Core.Option.{Option, none, some}
-use Prim.Native.Nat.{ℕ, zero, suc, ◌+◌, ◌*◌, ◌/◌, ◌%◌, ◌^◌, ◌≤◌, ◌<◌}
-use native.Mathlib.Nat.{eq-or-lt_of_le, mod-eq_of_lt}
-use native.Mathlib.Omega.{arith}
-use lib.ListN.{length, get_or, set, get_or-map}
-use lib.Dec.{eqb, leb, ltb}
-use borrow.Author.Tests.{eq-eqb, ne_eqb, lt-ltb}
-use Rattle.word.specs.Word.{cut, alu, compare, write_bytes}
+use mathlib.Core.Option.{none, some}
+use Prim.Native.Nat.{ℕ, zero, suc, ◌+◌, ◌%◌, ◌^◌, ◌<◌}
+use lib.ListN.{get_or, set, get_or-map}
+use lib.Dec.{eqb, leb}
+use Rattle.word.specs.Word.{alu, compare, write_bytes}
 use Rattle.word.specs.declared.Operation.{Operation}
 use Rattle.word.specs.declared.Operation.TheVariants.{Add, Sub, Mov}
 use Rattle.word.specs.declared.Operation.TheVariants as operation
@@ -28,13 +25,12 @@ use Rattle.number.specs.declared.Refined.TheVariants.{Excluded, Possible}
 use Rattle.number.specs.Sharpen.{exact, just}
 use Rattle.number.specs.Computed.{computed, fits}
 use Rattle.number.proofs.Laws.{computed_exact}
-use Rattle.analysis.specs.declared.Reason.TheVariants.{WritesR10, ReadsUnset, Outside, LeaksAddress}
+use Rattle.analysis.specs.declared.Reason.TheVariants.{WritesR10, Outside}
 use Rattle.analysis.specs.declared.Region.{Region}
 use Rattle.analysis.specs.declared.Region.TheVariants.{Record, Stack}
-use Rattle.analysis.specs.declared.Gone.TheVariants.{Never, Mixed}
+use Rattle.analysis.specs.declared.Gone.TheVariants.{Never}
 use Rattle.analysis.specs.declared.Value.{Value}
 use Rattle.analysis.specs.declared.Value.TheVariants.{Unusable, Plain, Address}
-use Rattle.analysis.specs.declared.Finding.TheVariants.{Accepted}
 use Rattle.analysis.specs.declared.Effect.{Effect}
 use Rattle.analysis.specs.declared.Effect.TheVariants.{Refuse, Put, Keep, Fork, Goto, Stop}
 use Rattle.analysis.specs.Values.{Facts, value_of, operand_of}
@@ -43,7 +39,7 @@ use Rattle.analysis.specs.Judged.{having, with_operand, along}
 use Rattle.analysis.proofs.Literal.{along_possible, along_excluded}
 use Rattle.analysis.proofs.Told.{told_exact, told_exact_excluded}
 use Rattle.analysis.proofs.LayoutFree.{Cell, unset, number, offset, Config, Course, stuck, ends, goes, cell_of, operand_cell, put_cell, copied, calculated, summed, subtracted, worked, stored_at, stored, jumped_to, forked, exited, free}
-use Rattle.analysis.proofs.Meaning.{Stands, StandAll, Describes, stand_get}
+use Rattle.analysis.proofs.Meaning.{Stands, Describes}
 use Rattle.analysis.proofs.Sound.{WordOperand, Words, wide, value_stands}
 use Rattle.analysis.proofs.Simulation.{map_set}
 

@@ -15,7 +15,7 @@ use Rattle.analysis.specs.declared.Finding.TheVariants.{Accepted, Refused}
 use Rattle.analysis.specs.declared.Judged.{Judged}
 use Rattle.analysis.specs.Form.{instruction, Orderly, Reached, HasForm, Fails, FirstFailure, Dead}
 use Rattle.analysis.specs.Paths.{connected}
-use Rattle.analysis.specs.Judged.{reason_number, on_values, Walk, formed, followed, on_paths, on_form, judged}
+use Rattle.analysis.specs.Judged.{reason_number, on_values, formed, followed, on_paths, on_form, judged}
 use Rattle.analysis.proofs.Annotated.{refused_not_accepted}
 use Rattle.analysis.proofs.FormLaws.{refused_injective, passes_orderly, orderly_passes, form_refusal, failure_is_refused}
 use Rattle.analysis.proofs.Paths.{connected_iff, unconnected_dead, dead_unconnected, passes_has_form}

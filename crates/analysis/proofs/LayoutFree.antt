@@ -1,9 +1,9 @@
 -- The machine without a layout: a register is unset, a number, or an offset into the record or the stack. It is stuck on whatever would
 -- fault and on whatever would depend on where memory lies.
 use mathlib.Core.Path.{◌≡◌}
-use mathlib.Core.Bool.{Bool, true, false, cond}
+use mathlib.Core.Bool.{Bool, true, cond}
 use mathlib.Core.List.{List, [], ◌∷◌}
-use Prim.Native.Nat.{ℕ, zero, suc, ◌+◌, ◌/◌, ◌%◌, ◌^◌, ◌≤◌, ◌<◌}
+use Prim.Native.Nat.{ℕ, zero, suc, ◌+◌, ◌/◌, ◌%◌, ◌^◌, ◌<◌}
 use lib.ListN.{length, get_or, set, replicate}
 use lib.Dec.{eqb, leb}
 use Rattle.word.specs.Word.{cut, alu, compare, read_bytes, write_bytes}

@@ -4,11 +4,10 @@ use mathlib.Core.Bool.{Bool, true, false, cond}
 use mathlib.Core.Logic.{◌⊎◌, inl, inr, ⊎_elim}
 use mathlib.Core.List.{List}
 use mathlib.Core.Option.{Option, none, some}
-use Prim.Native.Nat.{ℕ, zero, suc, ◌+◌, ◌-◌, ◌/◌, ◌≤◌, ◌<◌}
+use Prim.Native.Nat.{ℕ, zero, suc, ◌/◌, ◌≤◌, ◌<◌}
 use native.Mathlib.Omega.{arith}
 use lib.ListN.{length}
-use lib.Dec.{leb}
-use borrow.Author.Tests.{le-leb, le-ltb, leb-true}
+use borrow.Author.Tests.{le-ltb}
 use Rattle.word.specs.declared.Operation.TheVariants.{Add}
 use Rattle.machine.specs.declared.instruction.Instruction.{Instruction}
 use Rattle.machine.specs.declared.instruction.Instruction.TheVariants.{Alu, Neg, Jump, Always, Exit, Load, Store, NoInstruction}
@@ -18,7 +17,6 @@ use Rattle.number.specs.Computed.{computed, fits}
 use Rattle.number.proofs.Laws.{fits_exactly}
 use Rattle.analysis.specs.declared.Reason.{Reason}
 use Rattle.analysis.specs.declared.Reason.TheVariants.{Outside}
-use Rattle.analysis.specs.declared.Region.TheVariants.{Record, Stack}
 use Rattle.analysis.specs.declared.Finding.TheVariants.{Accepted}
 use Rattle.analysis.specs.declared.Value.{Value}
 use Rattle.analysis.specs.declared.Value.TheVariants.{Unusable, Plain, Address}
@@ -26,7 +24,7 @@ use Rattle.analysis.specs.declared.Effect.TheVariants.{Refuse}
 use Rattle.analysis.specs.Values.{Facts, value_of}
 use Rattle.analysis.specs.Effects.{is_never, is_mixed, reading, put, limit, load, effect}
 use Rattle.analysis.specs.Form.{instruction}
-use Rattle.analysis.specs.Judged.{refuses, apply, judged}
+use Rattle.analysis.specs.Judged.{apply, judged}
 use Rattle.analysis.specs.Promise.{flowing, flow, known_from, known, Allows}
 use Rattle.analysis.proofs.Literal.{limit_grows}
 use Rattle.analysis.proofs.Whole.{accepted_exactly}

@@ -1,5 +1,5 @@
 -- Which layout-free configurations the facts at an index stand for, and that joined facts stand for both.
-use mathlib.Core.Path.{◌≡◌, refl}
+use mathlib.Core.Path.{◌≡◌}
 use mathlib.Core.Logic.{◌⊎◌, inl, inr}
 use mathlib.Core.List.{List, [], ◌∷◌}
 use mathlib.Core.Option.{Option, none, some}
@@ -10,10 +10,10 @@ use Rattle.number.specs.Meaning.{In}
 use Rattle.number.specs.Sharpen.{joined_number}
 use Rattle.analysis.specs.declared.Region.{Region}
 use Rattle.analysis.specs.declared.Region.TheVariants.{Record, Stack}
-use Rattle.analysis.specs.declared.Gone.TheVariants.{Never, Mixed}
+use Rattle.analysis.specs.declared.Gone.TheVariants.{Never}
 use Rattle.analysis.specs.declared.Value.{Value}
 use Rattle.analysis.specs.declared.Value.TheVariants.{Unusable, Plain, Address}
-use Rattle.analysis.specs.Values.{Facts, same_region, joined_gone, joined_value, joined_values, joined_facts, meeting}
+use Rattle.analysis.specs.Values.{Facts, same_region, joined_value, joined_values, joined_facts, meeting}
 use Rattle.analysis.specs.Safe.{Bytes}
 use Rattle.analysis.proofs.LayoutFree.{Cell, unset, number, offset, Config}
 use Rattle.number.proofs.Laws.{joined_covers_left, joined_covers_right}

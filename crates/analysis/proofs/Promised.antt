@@ -2,7 +2,7 @@
 use mathlib.Core.List.{List}
 use Prim.Native.Nat.{ℕ}
 use Rattle.analysis.specs.Judged.{judged}
-use Rattle.analysis.specs.Promise.{OnForm, Promise}
+use Rattle.analysis.specs.Promise.{Promise}
 use Rattle.analysis.proofs.Judgement.{answers_1, answers_2, answers_tests, answers_12}
 use Rattle.analysis.proofs.Sentences.{sentences_told}
 use Rattle.analysis.proofs.Theorem.{accepted_safe}

@@ -11,10 +11,8 @@ use Rattle.word.specs.declared.Comparison.{Comparison}
 use Rattle.machine.specs.declared.instruction.Width.{Width}
 use Rattle.machine.specs.declared.instruction.Width.TheVariants.{Long, Short}
 use Rattle.machine.specs.declared.instruction.Operand.{Operand}
-use Rattle.machine.specs.declared.instruction.Size.{Size}
-use Rattle.machine.specs.declared.instruction.Instruction.TheVariants.{Alu, Neg, Jump, Exit, Load, Store}
+use Rattle.machine.specs.declared.instruction.Instruction.TheVariants.{Alu}
 use Rattle.machine.specs.Machine.{bits, bytes}
-use Rattle.number.specs.declared.Number.{Number}
 use Rattle.number.specs.Sharpen.{exact}
 use Rattle.number.specs.Computed.{computed}
 use Rattle.number.proofs.Laws.{fits_not}

@@ -2,14 +2,14 @@
 -- instruction's own reason.
 use mathlib.Core.Path.{◌≡◌, refl, sym, ap, ◌∙◌, subst}
 use mathlib.Core.Bool.{Bool, true, false, cond, ◌||◌, true≢false}
-use mathlib.Core.Logic.{◌⊎◌, inl, inr, ⊎_elim}
-use mathlib.Core.List.{List, [], ◌∷◌}
+use mathlib.Core.Logic.{⊎_elim}
+use mathlib.Core.List.{List}
 use mathlib.Core.Option.{Option, none, some}
 use Prim.Native.Nat.{ℕ, zero, suc, ◌+◌, ◌*◌, ◌/◌, ◌%◌, ◌≤◌, ◌<◌}
 use native.Mathlib.Nat.{eq-or-lt_of_le}
 use native.Mathlib.Omega.{arith}
 use lib.ListN.{length}
-use lib.Dec.{eqb, leb, ltb}
+use lib.Dec.{eqb}
 use borrow.Author.Tests.{leb-false, lt-ltb, eqb-true, eqb-false, not-false}
 use Rattle.word.specs.declared.Operation.{Operation}
 use Rattle.word.specs.declared.Operation.TheVariants as operation
@@ -20,22 +20,20 @@ use Rattle.machine.specs.declared.instruction.Instruction.{Instruction}
 use Rattle.machine.specs.declared.instruction.Instruction.TheVariants.{Alu, Neg, Jump, Always, Exit, Load, Store, NoInstruction}
 use Rattle.machine.specs.Instruction.{writes}
 use Rattle.machine.specs.Machine.{bits, bytes, is_no_instruction, names10, bad_program}
-use Rattle.number.specs.declared.Refined.{Refined}
 use Rattle.number.specs.Computed.{computed, fits}
 use Rattle.number.specs.Sharpen.{exact, loaded}
 use Rattle.analysis.specs.declared.Reason.{Reason}
-use Rattle.analysis.specs.declared.Reason.TheVariants.{WritesR10, JumpsOut, ReadsUnset, Outside, LeaksAddress}
+use Rattle.analysis.specs.declared.Reason.TheVariants.{ReadsUnset, Outside, LeaksAddress}
 use Rattle.analysis.specs.declared.Region.TheVariants.{Record, Stack}
-use Rattle.analysis.specs.declared.Finding.{Finding}
-use Rattle.analysis.specs.declared.Finding.TheVariants.{Accepted, Refused}
+use Rattle.analysis.specs.declared.Finding.TheVariants.{Refused}
 use Rattle.analysis.specs.declared.Value.{Value}
 use Rattle.analysis.specs.declared.Value.TheVariants.{Unusable, Plain, Address}
 use Rattle.analysis.specs.declared.Effect.{Effect}
 use Rattle.analysis.specs.declared.Effect.TheVariants.{Refuse, Put, Keep, Fork, Goto, Stop}
-use Rattle.analysis.specs.Values.{Facts, value_of, operand_of, start_facts}
+use Rattle.analysis.specs.Values.{Facts, start_facts}
 use Rattle.analysis.specs.Effects.{is_never, is_mixed, reading, reading_both, put, Role, copies, converts, adds, subtracts, calculates, role, calculate, sum, difference, arithmetic, limit, load, store_at, store, fork, exit, effect}
-use Rattle.analysis.specs.Form.{instruction, off_of, goes_back, goes_out, may_be_last, Fine, HasForm}
-use Rattle.analysis.specs.Judged.{on_values, Flow, refuses, flows, along, apply, Waiting, nobody, arrive, Progress, halted, onward, send, and_then, distribute, visit, Walk, conclude, pass, followed}
+use Rattle.analysis.specs.Form.{instruction, off_of, goes_out, may_be_last, Fine, HasForm}
+use Rattle.analysis.specs.Judged.{on_values, flows, along, apply, Waiting, nobody, Progress, halted, onward, send, and_then, distribute, visit, Walk, conclude, pass, followed}
 use Rattle.analysis.proofs.Literal.{conclude_halted, conclude_onward}
 use Rattle.analysis.proofs.Annotated.{refused_not_accepted}
 use Rattle.analysis.proofs.FormLaws.{refused_injective}

@@ -1,26 +1,23 @@
 -- What one instruction and one way out tell is what the sentences of `Promise` say: a definition that forgets more makes one of them false.
 use mathlib.Core.Path.{◌≡◌, refl, sym, ap, ◌∙◌, subst}
-use mathlib.Core.Bool.{Bool, true, false, cond}
+use mathlib.Core.Bool.{false}
 use mathlib.Core.List.{List, [], ◌∷◌}
-use mathlib.Core.Option.{Option, none, some}
-use Prim.Native.Nat.{ℕ, zero, suc, ◌+◌, ◌^◌, ◌≤◌, ◌<◌}
+use Prim.Native.Nat.{ℕ, zero, suc, ◌+◌, ◌^◌, ◌<◌}
 use native.Mathlib.Omega.{arith}
-use lib.ListN.{length, set, get_or, length-set}
+use lib.ListN.{length, get_or, length-set}
 use lib.Seq.{get_or-set_same, get_or-set_other}
 use lib.Dec.{eqb}
 use borrow.Author.Tests.{leb-true, le-leb}
 use Rattle.word.specs.declared.Operation.{Operation}
 use Rattle.word.specs.declared.Operation.TheVariants.{Add, Mov}
 use Rattle.machine.specs.declared.instruction.Width.{Width}
-use Rattle.machine.specs.declared.instruction.Width.TheVariants.{Long, Short}
 use Rattle.machine.specs.declared.instruction.Operand.{Operand}
 use Rattle.machine.specs.declared.instruction.Operand.TheVariants.{Immediate, Register}
 use Rattle.machine.specs.declared.instruction.Size.{Size}
 use Rattle.machine.specs.declared.instruction.Instruction.TheVariants.{Alu}
 use Rattle.machine.specs.Machine.{bits, bytes}
 use Rattle.number.specs.declared.Number.{Number}
-use Rattle.number.specs.declared.Refined.{Refined}
-use Rattle.number.specs.declared.Refined.TheVariants.{Excluded, Possible}
+use Rattle.number.specs.declared.Refined.TheVariants.{Possible}
 use Rattle.number.specs.Sharpen.{exact, joined_number}
 use Rattle.number.specs.Computed.{computed}
 use Rattle.number.proofs.Laws.{fits_exactly, fits_not, all_demanded}
@@ -29,8 +26,7 @@ use Rattle.analysis.specs.declared.Region.TheVariants.{Record, Stack}
 use Rattle.analysis.specs.declared.Gone.TheVariants.{Never, Mixed}
 use Rattle.analysis.specs.declared.Value.{Value}
 use Rattle.analysis.specs.declared.Value.TheVariants.{Unusable, Plain, Address}
-use Rattle.analysis.specs.declared.Effect.{Effect}
-use Rattle.analysis.specs.declared.Effect.TheVariants.{Refuse, Put, Keep, Fork, Goto, Stop}
+use Rattle.analysis.specs.declared.Effect.TheVariants.{Put}
 use Rattle.analysis.specs.Values.{Facts, value_of, operand_of, start_facts, same_region, joined_gone, joined_value, joined_values, joined_facts}
 use Rattle.analysis.specs.Effects.{is_never, is_mixed, reading, reading_both, put, role, calculate, sum, difference, arithmetic, limit, load, store_at, store, told, fork, exit, effect}
 use Rattle.analysis.specs.Form.{reason_number, instruction, off_of, goes_back, goes_out, may_be_last, goes_on}

@@ -30,7 +30,6 @@ use Rattle.machine.specs.Machine as machine
 use Rattle.analysis.specs.declared.Region.{Region}
 use Rattle.analysis.specs.declared.Region.TheVariants.{Record, Stack}
 use Rattle.analysis.specs.Effects.{role, limit}
-use Rattle.analysis.specs.Form.{instruction}
 use Rattle.analysis.proofs.Roles.{by_role}
 use Rattle.analysis.proofs.LayoutFree.{Cell, unset, number, offset, Config, Course, stuck, ends, goes, cell_of, operand_cell, put_cell, copied, calculated, summed, subtracted, worked, region, loaded_at, loaded, stored_at, stored, jumped_to, forked, exited, free}
 

@@ -1,16 +1,16 @@
 -- Each instruction that the analysis lets pass: the layout-free machine is not stuck on it, and goes where the analysis says, to what it
 -- says.
-use mathlib.Core.Path.{◌≡◌, refl, sym, ap, ◌∙◌, subst}
+use mathlib.Core.Path.{◌≡◌, refl, sym, ◌∙◌, subst}
 use mathlib.Core.Bool.{Bool, true, false, cond, ◌||◌}
 use mathlib.Core.Logic.{◌⊎◌, inl, inr}
-use mathlib.Core.List.{List, [], ◌∷◌}
+use mathlib.Core.List.{List}
 use mathlib.Core.Option.{Option, none, some}
-use Prim.Native.Nat.{ℕ, ◌+◌, ◌*◌, ◌%◌, ◌^◌, ◌≤◌, ◌<◌}
+use Prim.Native.Nat.{ℕ, ◌+◌, ◌%◌, ◌^◌, ◌≤◌, ◌<◌}
 use native.Mathlib.Omega.{arith}
-use lib.ListN.{length, get_or, set}
-use lib.Dec.{eqb, leb}
+use lib.ListN.{length, set}
+use lib.Dec.{eqb}
 use borrow.Author.Tests.{le-leb}
-use Rattle.word.specs.Word.{cut, alu, compare, read_bytes, write_bytes}
+use Rattle.word.specs.Word.{cut, alu, compare}
 use Rattle.word.specs.declared.Operation.{Operation}
 use Rattle.word.specs.declared.Operation.TheVariants.{Add, Sub, Mul, Div, Or, And, Lsh, Rsh, Mod, Xor, Mov, Arsh}
 use Rattle.word.specs.declared.Operation.TheVariants as operation
@@ -33,7 +33,6 @@ use Rattle.number.specs.Meaning.{In, Kept}
 use Rattle.number.specs.Sharpen.{exact}
 use Rattle.number.specs.Sharpen as numbers
 use Rattle.number.specs.Computed.{computed, fits}
-use Rattle.analysis.specs.declared.Reason.{Reason}
 use Rattle.analysis.specs.declared.Reason.TheVariants.{WritesR10, ReadsUnset, Outside, LeaksAddress}
 use Rattle.analysis.specs.declared.Region.{Region}
 use Rattle.analysis.specs.declared.Region.TheVariants.{Record, Stack}
@@ -41,7 +40,7 @@ use Rattle.analysis.specs.declared.Gone.TheVariants.{Never, Mixed}
 use Rattle.analysis.specs.declared.Value.{Value}
 use Rattle.analysis.specs.declared.Value.TheVariants.{Unusable, Plain, Address}
 use Rattle.analysis.specs.declared.Effect.{Effect}
-use Rattle.analysis.specs.declared.Effect.TheVariants.{Refuse, Put, Keep, Fork, Goto, Stop}
+use Rattle.analysis.specs.declared.Effect.TheVariants.{Refuse, Put, Keep, Fork}
 use Rattle.analysis.specs.Values.{Facts, value_of, operand_of}
 use Rattle.analysis.specs.Effects.{is_never, is_mixed, reading, reading_both, put, Role, copies, converts, adds, subtracts, calculates, role, calculate, sum, difference, arithmetic, limit, load, store_at, store, told, fork, exit, effect}
 use Rattle.analysis.specs.Judged.{having, with_operand, along, Flow, refuses, flows, apply}
@@ -49,7 +48,7 @@ use Rattle.analysis.specs.Safe.{Bytes}
 use Rattle.analysis.proofs.Literal.{along_possible}
 use Rattle.analysis.proofs.Told.{told_sound}
 use Rattle.analysis.proofs.LayoutFree.{Cell, unset, number, offset, Config, Course, stuck, ends, goes, cell_of, operand_cell, put_cell, copied, calculated, summed, subtracted, worked, region, loaded_at, loaded, stored_at, stored, jumped_to, forked, exited, free}
-use Rattle.analysis.proofs.Meaning.{Stands, StandAll, Describes, Awaits, stand_get, stand_set, stand_learn}
+use Rattle.analysis.proofs.Meaning.{Stands, Describes, Awaits, stand_get, stand_set, stand_learn}
 use Rattle.number.proofs.Laws.{exact_in, loaded_in, computed_sound, fits_sound}
 
 -- what the instruction holds is of 64 bits

@@ -1,34 +1,32 @@
 -- The theorem: what the analysis accepts is safe.
-use mathlib.Core.Path.{◌≡◌, refl, sym, ap, ◌∙◌, subst}
-use mathlib.Core.Bool.{Bool, true, false, cond, not, ◌&&◌, ◌||◌, true≢false}
-use mathlib.Core.Logic.{◌⊎◌, inl, inr, ⊎_elim}
-use mathlib.Core.List.{List, [], ◌∷◌}
-use mathlib.Core.Option.{Option, none, some}
-use Prim.Native.Nat.{ℕ, zero, suc, ◌+◌, ◌-◌, ◌*◌, ◌/◌, ◌%◌, ◌^◌, ◌≤◌, ◌<◌}
+use mathlib.Core.Path.{◌≡◌, refl, sym, ap, ◌∙◌}
+use mathlib.Core.Bool.{Bool, true, false, cond, not, ◌&&◌, ◌||◌}
+use mathlib.Core.Logic.{◌⊎◌, inl, inr}
+use mathlib.Core.List.{List}
+use mathlib.Core.Option.{some}
+use Prim.Native.Nat.{ℕ, zero, suc, ◌+◌, ◌-◌, ◌*◌, ◌/◌, ◌%◌, ◌^◌, ◌≤◌}
 use native.Mathlib.Nat.{zero-add}
 use native.Mathlib.Omega.{arith}
-use lib.ListN.{length, get_or, replicate, length-replicate}
+use lib.ListN.{length, get_or, replicate}
 use lib.Dec.{eqb, leb, ltb}
 use borrow.Author.Tests.{ltb-false, le-ltb, eq-eqb}
-use Rattle.machine.specs.declared.outcome.Outcome.{Outcome}
 use Rattle.machine.specs.declared.outcome.Outcome.TheVariants.{Verdict, Budget}
-use Rattle.machine.specs.Machine.{World, Done, bad_program, bad_record, bad_stack, bad_address, overlap, refused, interpreted, runs, start}
+use Rattle.machine.specs.Machine.{World, bad_program, bad_record, bad_stack, bad_address, overlap, refused, interpreted, runs}
 use Rattle.analysis.specs.declared.Finding.{Finding}
 use Rattle.analysis.specs.declared.Finding.TheVariants.{Accepted, Refused}
 use Rattle.analysis.specs.declared.Reason.TheVariants.{BadLength, LongRecord}
-use Rattle.analysis.specs.declared.Judged.{Judged}
 use Rattle.analysis.specs.Values.{start_facts}
 use Rattle.analysis.specs.Paths.{connected}
-use Rattle.analysis.specs.Judged.{Waiting, nobody, send, pass, formed, followed, on_paths, on_form, judged}
+use Rattle.analysis.specs.Judged.{nobody, send, pass, formed, followed, on_paths, on_form, judged}
 use Rattle.analysis.specs.Safe.{Laid, Bytes, Answer, Safe}
-use Rattle.analysis.proofs.LayoutFree.{Config, start_config, Comes}
+use Rattle.analysis.proofs.LayoutFree.{start_config}
 use Rattle.number.proofs.Laws.{exact_in}
-use Rattle.analysis.proofs.Meaning.{Describes, Awaits}
+use Rattle.analysis.proofs.Meaning.{Describes}
 use Rattle.analysis.proofs.Simulation.{Apart}
 use Rattle.analysis.proofs.Running.{comes_run, start_same}
 use Rattle.analysis.proofs.Tests.{or-false, or_right}
 use Rattle.analysis.proofs.Stable.{Ends, stable_ends}
-use Rattle.analysis.proofs.Annotated.{Unless, send_sends, accepted_onward, refused_not_accepted, accepted_settled}
+use Rattle.analysis.proofs.Annotated.{send_sends, accepted_onward, refused_not_accepted, accepted_settled}
 
 -- ---- the start
 

@@ -2,8 +2,8 @@
 use mathlib.Core.Path.{◌≡◌, refl, sym, ap, ◌∙◌, subst}
 use mathlib.Core.Bool.{Bool, true, false, cond}
 use mathlib.Core.Logic.{◌⊎◌, inl, inr, ⊎_elim}
-use mathlib.Core.List.{List, [], ◌∷◌, ◌++◌}
-use Prim.Native.Nat.{ℕ, zero, suc, ◌+◌, ◌-◌, ◌*◌, ◌/◌, ◌%◌, ◌^◌, ◌≤◌, ◌<◌}
+use mathlib.Core.List.{List, [], ◌∷◌}
+use Prim.Native.Nat.{ℕ, zero, suc, ◌+◌, ◌-◌, ◌%◌, ◌^◌, ◌≤◌, ◌<◌}
 use native.Mathlib.Omega.{arith}
 use lib.ListN.{length, get_or, replicate, length-replicate}
 use lib.Dec.{leb}
@@ -11,7 +11,6 @@ use borrow.Author.Tests.{le-ltb}
 use Rattle.word.specs.Word.{cut, extend, shift_signed, alu, moved, compare, read_bytes, write_bytes}
 use Rattle.machine.specs.declared.instruction.Size.{Size}
 use Rattle.machine.specs.declared.instruction.Size.TheVariants.{One, Four, Eight}
-use Rattle.machine.specs.declared.memory.Loaded.{Loaded}
 use Rattle.machine.specs.declared.memory.Loaded.TheVariants.{Value, Nowhere}
 use Rattle.machine.specs.declared.outcome.Cause.{Cause}
 use Rattle.machine.specs.declared.outcome.Outcome.{Outcome}
@@ -20,7 +19,7 @@ use Rattle.machine.specs.declared.outcome.Cause.TheVariants.{Unset, BadAccess}
 use Rattle.machine.specs.Instruction.{fields, only, lookup, with_operand, operations, arithmetic, comparisons, jump, loads, stores_of_imm, stores_of_src, load, store_of_imm, store_of_src, by_class, meaning, decode, reads_operand, reads_dst, reads, writes}
 use Rattle.machine.specs.Machine as machine
 use Rattle.machine.specs.Machine.{World, State, Content, Holds, Done, content, held, value, operand_value, put, jumped, bits, bytes, address, within, loaded, after_load, after_store, effect, is_no_instruction, names10, is_unset, any_unset, obey, step, next, runs, start, bad_program, bad_record, bad_stack, bad_address, overlap, refused, interpreted}
-use Rattle.analysis.specs.Safe.{Laid, Bytes, Answer, Safe}
+use Rattle.analysis.specs.Safe.{Laid, Bytes, Safe}
 use Rattle.analysis.specs.declared.Finding.TheVariants.{Accepted}
 use Rattle.analysis.specs.Judged.{judged}
 use Rattle.analysis.proofs.Simulation.{within_yes, within_no}

@@ -2,22 +2,22 @@
 -- that the analysis follows that run and nothing else.
 use mathlib.Core.Path.{◌≡◌, refl, sym, ap, ◌∙◌, subst}
 use mathlib.Core.Bool.{Bool, true, false, cond}
-use mathlib.Core.Logic.{◌↔◌, ◌⊎◌, inl, inr, ⊎_elim}
+use mathlib.Core.Logic.{◌↔◌, ◌⊎◌, inl, inr}
 use mathlib.Core.List.{List}
 use mathlib.Core.Option.{Option, none, some}
-use Prim.Native.Nat.{ℕ, zero, suc, ◌+◌, ◌/◌, ◌%◌, ◌^◌, ◌≤◌, ◌<◌}
+use Prim.Native.Nat.{ℕ, zero, suc, ◌+◌, ◌/◌, ◌^◌, ◌≤◌, ◌<◌}
 use native.Mathlib.Nat.{eq-or-lt_of_le, mod-eq_of_lt}
 use native.Mathlib.Omega.{arith}
 use lib.ListN.{length}
-use lib.Dec.{eqb, ltb}
-use borrow.Author.Tests.{eq-eqb, ne_eqb, eqb-true, eqb-false, lt-ltb}
+use lib.Dec.{eqb}
+use borrow.Author.Tests.{eq-eqb, ne_eqb, lt-ltb}
 use Rattle.analysis.specs.declared.Finding.TheVariants.{Accepted}
 use Rattle.analysis.specs.declared.Effect.{Effect}
 use Rattle.analysis.specs.declared.Effect.TheVariants.{Refuse, Put, Keep, Fork, Goto, Stop}
 use Rattle.analysis.specs.Values.{Facts, start_facts, meeting}
 use Rattle.analysis.specs.Effects.{effect}
 use Rattle.analysis.specs.Form.{instruction, HasForm}
-use Rattle.analysis.specs.Judged.{Flow, flows, along, apply, Waiting, nobody, arrive, Progress, halted, onward, send, and_then, distribute, visit, Walk, conclude, pass, followed, on_paths, on_form, judged}
+use Rattle.analysis.specs.Judged.{flows, along, apply, Waiting, nobody, arrive, onward, send, and_then, distribute, visit, conclude, pass, followed, on_paths, on_form, judged}
 use Rattle.analysis.specs.Safe.{Bytes}
 use Rattle.analysis.proofs.LayoutFree.{Config, Course, stuck, ends, goes, free, Comes, at_once, later, start_config}
 use Rattle.analysis.proofs.Meaning.{Describes, Awaits}
@@ -27,7 +27,6 @@ use Rattle.analysis.proofs.Refusing.{Lawful, effect_lawful, some_instruction}
 use Rattle.analysis.proofs.FormLaws.{orderly_passes}
 use Rattle.analysis.proofs.Paths.{connected_iff}
 use Rattle.analysis.proofs.ExactEffects.{facts, Matches, is_load, effect_matches}
-use Rattle.analysis.proofs.Stable.{Ends}
 use Rattle.analysis.proofs.Theorem.{start_described, accepted_passed, followed_ends, length_short}
 
 -- from index i on nothing waits but what c has, at its index

@@ -3,20 +3,18 @@ use mathlib.Core.Path.{◌≡◌, refl}
 use mathlib.Core.Bool.{Bool, true, false, cond}
 use mathlib.Core.List.{List}
 use mathlib.Core.Option.{Option, none, some}
-use Prim.Native.Nat.{ℕ, zero, suc, ◌+◌, ◌*◌, ◌/◌, ◌≤◌, ◌<◌}
-use native.Mathlib.Nat.{le_trans}
+use Prim.Native.Nat.{ℕ, zero, suc, ◌+◌, ◌*◌, ◌/◌, ◌≤◌}
 use native.Mathlib.Omega.{arith}
 use lib.ListN.{length}
 use lib.Dec.{ltb}
 use Rattle.machine.specs.Machine.{bad_program, bad_record}
-use Rattle.analysis.specs.declared.Reason.{Reason}
 use Rattle.analysis.specs.declared.Reason.TheVariants.{BadLength, LongRecord, JumpsOut}
 use Rattle.analysis.specs.declared.Finding.{Finding}
 use Rattle.analysis.specs.declared.Finding.TheVariants.{Accepted, Refused}
 use Rattle.analysis.specs.Values.{Facts, start_facts}
 use Rattle.analysis.specs.Effects.{effect}
 use Rattle.analysis.specs.Form.{instruction}
-use Rattle.analysis.specs.Judged.{Flow, refuses, flows, apply, Waiting, nobody, arrive, Progress, halted, onward, send, and_then, distribute, visit, Walk, conclude, pass, formed, followed, on_paths, on_form, judged}
+use Rattle.analysis.specs.Judged.{Flow, refuses, flows, apply, Waiting, nobody, arrive, Progress, halted, onward, send, and_then, distribute, visit, conclude, pass, formed, followed, on_paths, on_form, judged}
 use Rattle.analysis.specs.Paths.{connected}
 use Rattle.analysis.proofs.FormLaws.{form_refusal}
 use Rattle.analysis.proofs.Paths.{unconnected_dead}

@@ -1,17 +1,17 @@
 -- The layouts that Safe speaks of are those that the interpreter does not refuse.
 use mathlib.Core.Path.{◌≡◌, refl, sym, ap, ◌∙◌}
-use mathlib.Core.Bool.{Bool, true, false, cond, not, ◌&&◌, ◌||◌, true≢false}
+use mathlib.Core.Bool.{Bool, true, false, not, ◌&&◌, ◌||◌, true≢false}
 use mathlib.Core.Logic.{◌↔◌, ◌⊎◌, inl, inr}
 use mathlib.Core.List.{List}
-use Prim.Native.Nat.{ℕ, ◌+◌, ◌*◌, ◌%◌, ◌^◌, ◌≤◌, ◌<◌}
+use Prim.Native.Nat.{ℕ, ◌+◌, ◌%◌, ◌^◌, ◌≤◌, ◌<◌}
 use native.Mathlib.Omega.{arith}
 use lib.ListN.{length}
 use lib.Dec.{eqb, ltb}
-use borrow.Author.Tests.{ltb-false, eqb-true, not-false, lt-ltb, ne_eqb}
+use borrow.Author.Tests.{ltb-false, eqb-true, not-false, lt-ltb}
 use Rattle.machine.specs.declared.outcome.Outcome.TheVariants.{Refused}
 use Rattle.machine.specs.Machine.{bad_program, bad_record, bad_stack, bad_address, overlap, refused, interpreted}
 use Rattle.machine.proofs.Refusals.{Broken, program_empty, program_ragged, program_too_long, record_too_long, stack_not_512, record_too_low, record_too_high, stack_too_low, stack_too_high, record_in_stack, refused_broken}
-use Rattle.analysis.specs.Safe.{Laid, Allowed}
+use Rattle.analysis.specs.Safe.{Allowed}
 use Rattle.analysis.proofs.Tests.{or_left, or_right}
 
 -- ---- what the tests that are passed say

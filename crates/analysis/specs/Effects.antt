@@ -1,13 +1,12 @@
 -- What an instruction does to what is known of the registers, or why it is refused: docs/VERIFIER.md, section 2.
 -- Where several reasons apply, 7 (unset) comes before 9 (address) and 9 before 8 (access).
-use Rattle.std.specs.Prelude.{Bool, true, false, cond, ◌||◌, ℕ, ◌+◌, ◌^◌, eqb}
+use Rattle.std.specs.Prelude.{Bool, true, false, cond, ◌||◌, ℕ, ◌+◌, eqb}
 use Rattle.word.specs.declared.Operation.{Operation}
 use Rattle.word.specs.declared.Operation.TheVariants.{Add, Sub, Mul, Div, Or, And, Lsh, Rsh, Mod, Xor, Mov, Arsh}
 use Rattle.word.specs.declared.Operation.TheVariants as operation
 use Rattle.word.specs.declared.Comparison.{Comparison}
 use Rattle.machine.specs.declared.instruction.Width.{Width}
 use Rattle.machine.specs.declared.instruction.Width.TheVariants.{Long, Short}
-use Rattle.machine.specs.declared.instruction.Size.{Size}
 use Rattle.machine.specs.declared.instruction.Operand.{Operand}
 use Rattle.machine.specs.declared.instruction.Instruction.{Instruction}
 use Rattle.machine.specs.declared.instruction.Instruction.TheVariants.{Alu, Neg, Jump, Always, Exit, Load, Store, NoInstruction}
@@ -18,11 +17,9 @@ use Rattle.number.specs.Computed.{computed, fits}
 use Rattle.number.specs.declared.Refined.{Refined}
 use Rattle.number.specs.Compare.{refined}
 use Rattle.number.specs.Halves.{refined32}
-use Rattle.analysis.specs.declared.Reason.{Reason}
 use Rattle.analysis.specs.declared.Reason.TheVariants.{NoCode, WritesR10, ReadsUnset, Outside, LeaksAddress}
 use Rattle.analysis.specs.declared.Region.{Region}
 use Rattle.analysis.specs.declared.Region.TheVariants.{Record, Stack}
-use Rattle.analysis.specs.declared.Gone.{Gone}
 use Rattle.analysis.specs.declared.Gone.TheVariants.{Never, Mixed}
 use Rattle.analysis.specs.declared.Value.{Value}
 use Rattle.analysis.specs.declared.Value.TheVariants.{Unusable, Plain, Address}

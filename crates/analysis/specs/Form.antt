@@ -1,7 +1,6 @@
 -- The tests on form of docs/VERIFIER.md, section 1: what a program of good form is, and the first test that fails.
-use Rattle.std.specs.Prelude.{◌≡◌, ◌⊎◌, Bool, true, false, cond, not, ◌&&◌, ◌||◌, List, ℕ, zero, suc, ◌+◌, ◌*◌, ◌/◌, ◌%◌, ◌^◌, ◌≤◌, ◌<◌, length, eqb, leb, ltb}
+use Rattle.std.specs.Prelude.{◌≡◌, ◌⊎◌, Bool, true, false, cond, not, ◌&&◌, ◌||◌, List, ℕ, ◌+◌, ◌*◌, ◌/◌, ◌^◌, ◌<◌, length, eqb, leb}
 use Rattle.std.proofs.Math.Option.{Option, none, some}
-use Rattle.word.specs.declared.Comparison.{Comparison}
 use Rattle.machine.specs.declared.instruction.Instruction.{Instruction}
 use Rattle.machine.specs.declared.instruction.Instruction.TheVariants.{Alu, Neg, Jump, Always, Exit, Load, Store, NoInstruction}
 use Rattle.machine.specs.Instruction.{decode, writes}

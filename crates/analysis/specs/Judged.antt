@@ -1,11 +1,10 @@
 -- The analysis: the tests on form, dead code among them, then one pass that follows the values. Jumps go forward, so each index is looked at once, after all
 -- that comes there. The answer is a reason and a place, and how much was done.
-use Rattle.std.specs.Prelude.{Bool, true, false, cond, List, ℕ, zero, suc, ◌+◌, ◌*◌, ◌/◌, ◌^◌, length, set, eqb, ltb}
+use Rattle.std.specs.Prelude.{Bool, true, false, cond, List, ℕ, zero, suc, ◌+◌, ◌*◌, ◌/◌, length, set, eqb, ltb}
 use Rattle.std.proofs.Math.Option.{Option, none, some}
 use Rattle.machine.specs.declared.instruction.Operand.{Operand}
 use Rattle.machine.specs.declared.instruction.Operand.TheVariants.{Immediate, Register}
 use Rattle.machine.specs.Machine.{bad_program, bad_record}
-use Rattle.number.specs.declared.Number.{Number}
 use Rattle.number.specs.declared.Refined.{Refined}
 use Rattle.number.specs.declared.Refined.TheVariants.{Excluded, Possible}
 use Rattle.analysis.specs.declared.Reason.{Reason}
@@ -14,7 +13,7 @@ use Rattle.analysis.specs.declared.Finding.{Finding}
 use Rattle.analysis.specs.declared.Finding.TheVariants.{Accepted, Refused}
 use Rattle.analysis.specs.declared.Judged.{Judged}
 use Rattle.analysis.specs.declared.Value.{Value}
-use Rattle.analysis.specs.declared.Value.TheVariants.{Unusable, Plain, Address}
+use Rattle.analysis.specs.declared.Value.TheVariants.{Plain}
 use Rattle.analysis.specs.declared.Effect.{Effect}
 use Rattle.analysis.specs.declared.Effect.TheVariants.{Refuse, Put, Keep, Fork, Goto, Stop}
 use Rattle.analysis.specs.Values.{Facts, start_facts, meeting}

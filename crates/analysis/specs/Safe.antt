@@ -1,7 +1,7 @@
 -- What the analysis' yes means, in terms of the machine's own definition.
 use Rattle.std.specs.Prelude.{◌≡◌, ◌⊎◌, false, cond, List, ℕ, ◌+◌, ◌/◌, ◌^◌, ◌≤◌, ◌<◌, length, get_or, leb}
 use Rattle.machine.specs.declared.outcome.Outcome.TheVariants.{Verdict, Budget}
-use Rattle.machine.specs.Machine.{Done, bad_program, bad_record, interpreted}
+use Rattle.machine.specs.Machine.{bad_program, bad_record, interpreted}
 
 -- where the unit may lay a record of R bytes and the stack, and what the stack's buffer holds before; an empty record overlaps nothing
 pub record Laid (R : ℕ) : Type 0 where

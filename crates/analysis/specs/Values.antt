@@ -1,5 +1,5 @@
 -- What is known of the registers at an index, and what covers two such states where paths meet.
-use Rattle.std.specs.Prelude.{Bool, true, false, List, [], ◌∷◌, ℕ, get_or}
+use Rattle.std.specs.Prelude.{List, [], ◌∷◌, ℕ, get_or}
 use Rattle.std.proofs.Math.Option.{Option, none, some}
 use Rattle.machine.specs.declared.instruction.Operand.{Operand}
 use Rattle.machine.specs.declared.instruction.Operand.TheVariants.{Immediate, Register}

@@ -1,5 +1,7 @@
 // What the analysis knows of a program's values, and what it answers. Types only: the analysis is defined in specs/ and computed by the
 // crate `verifier`.
+#![tactic(auto)]
+
 use machine::instruction::Operand;
 use number::{Number, Refined};
 

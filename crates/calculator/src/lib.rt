@@ -1,5 +1,7 @@
 // The routines that calculate with Numbers, each proved equal to its definition in `number`; what they promise is proved there of the
 // definitions. No function has a requires.
+#![tactic(auto)]
+
 pub mod compare;
 pub mod halves;
 pub mod operation;

@@ -1,5 +1,7 @@
 // The bytes of a program in a file: raw bytes, hexadecimal text, or the section of an ELF object; and what is wrong with a file, in a line.
 // All on slices, with no input or output.
+#![tactic(auto)]
+
 ghost use Rattle.std.specs.Prelude.{◌≤◌, length};
 ghost use Rattle.object.specs.Object.{Answer};
 ghost use Rattle.loading.specs.Loaded.{Inside};

@@ -9,7 +9,6 @@ use lib.Pow.{pow_pos}
 use Rattle.word.specs.declared.Operation.{Operation}
 use Rattle.word.proofs.Bit.{low_le}
 use Rattle.known_bits.specs.KnownBits.{Well}
-use Rattle.known_bits.specs.Formula.{low}
 use Rattle.known_bits.specs.Pair.{top}
 use Rattle.known_bits.proofs.Computing.{calculated_computed}
 use Rattle.known_bits.proofs.Inside.{joined_inside}

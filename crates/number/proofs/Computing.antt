@@ -4,7 +4,6 @@ use mathlib.Core.Bool.{Bool, true, false}
 use mathlib.Core.Logic.{◌↔◌}
 use Prim.Native.Nat.{ℕ, ◌+◌, ◌^◌, ◌≤◌, ◌<◌}
 use native.Mathlib.Omega.{arith}
-use lib.Pow.{pow_pos}
 use borrow.Author.Tests.{leb-true, le-leb}
 use Rattle.word.specs.Word.{cut, alu}
 use Rattle.word.specs.declared.Operation.{Operation}

@@ -15,7 +15,7 @@ use Rattle.number.specs.declared.Range.{Range}
 use Rattle.number.specs.declared.Number.{Number}
 use Rattle.number.specs.declared.Refined.{Refined}
 use Rattle.number.specs.declared.Refined.TheVariants.{Excluded, Possible}
-use Rattle.number.specs.Meaning.{Within, RangeWithin, Tightest, Left, Going}
+use Rattle.number.specs.Meaning.{RangeWithin, Tightest, Left, Going}
 use Rattle.number.specs.Demanded.{Going32}
 use Rattle.number.specs.Sharpen.{exact}
 use Rattle.number.specs.Computed.{modulo, computed}

@@ -3,40 +3,37 @@
 use mathlib.Core.Path.{◌≡◌, refl, sym, ap, ◌∙◌, subst}
 use mathlib.Core.Bool.{Bool, true, false, cond}
 use mathlib.Core.Logic.{◌⊎◌, inl, inr}
-use Prim.Native.Nat.{ℕ, ◌+◌, ◌-◌, ◌*◌, ◌/◌, ◌%◌, ◌^◌, ◌≤◌, ◌<◌, min}
-use native.Mathlib.Nat.{lt_of_lt_of_le}
+use Prim.Native.Nat.{ℕ, ◌-◌, ◌%◌, ◌^◌, ◌<◌, min}
 use native.Mathlib.Decide.{dec_lt}
 use native.Mathlib.Omega.{arith}
 use lib.Bits.{bit_and, and_lt}
-use lib.Pow.{pow_pos, pow_mono}
+use lib.Pow.{pow_pos}
 use Rattle.word.specs.Word.{bit, cut, alu, compare}
 use Rattle.word.specs.declared.Operation.TheVariants.{Add, Mov}
 use Rattle.word.specs.declared.Comparison.{Comparison}
 use Rattle.word.specs.declared.Comparison.TheVariants.{Eq, Gt, Ge, Set, Ne, Sgt, Sge, Lt, Le, Slt, Sle}
-use Rattle.word.proofs.Bit.{bit_lt, bit_zero, bit_and_lem, bit_not, bit_mod, bit_high, ext}
+use Rattle.word.proofs.Bit.{bit_lt, bit_zero, bit_and_lem, bit_not, bit_mod, ext}
 use Rattle.word.proofs.Pinned.{result_below}
 use Rattle.word.proofs.Cut.{cut_below, cut_small}
 use Rattle.known_bits.specs.declared.Bits.{Bits}
-use Rattle.known_bits.specs.KnownBits.{Well, Mem, Results}
+use Rattle.known_bits.specs.KnownBits.{Well, Mem}
 use Rattle.known_bits.specs.Formula.{calculated, formula, low}
 use Rattle.known_bits.proofs.Tight.{mem_least}
 use Rattle.known_bits.proofs.Class4.{cut_bit, low_well}
 use Rattle.known_bits.proofs.Laws.{high_bit, well_wider, mem_narrower}
-use Rattle.known_bits.proofs.Computing.{calculated_computed}
 use Rattle.number.specs.declared.Number.{Number}
 use Rattle.number.specs.declared.Refined.{Refined}
 use Rattle.number.specs.declared.Refined.TheVariants.{Excluded, Possible}
-use Rattle.number.specs.Meaning.{BitsWithin, Narrower, Left}
+use Rattle.number.specs.Meaning.{Left}
 use Rattle.number.specs.Demanded.{Unsigned, eq, ne, gt, ge, lt, le, LowBitsWithin, BoundedBy}
 use Rattle.number.specs.Sharpen.{exact}
-use Rattle.number.specs.Computed.{computed}
 use Rattle.number.specs.Compare.{refined}
-use Rattle.number.specs.Halves.{unsigned, signed, low_half, moved_half, compared, low_halves, halves, halves_of_bits, with_low, whole, refined32}
+use Rattle.number.specs.Halves.{unsigned, signed, low_half, moved_half, compared, low_halves, halves, with_low, whole, refined32}
 use Rattle.number.proofs.AgainstKnown.{set_not_taken_clears}
 use Rattle.number.proofs.Compare.{refined_narrower, refined_form}
 use Rattle.number.proofs.Computing.{computed_bits_within, computed_best}
 use Rattle.number.proofs.Exclusion.{excluded_by_bits}
-use Rattle.number.proofs.HalfOrders.{key, key_by, compare_by_keys, moved_back_lem}
+use Rattle.number.proofs.HalfOrders.{key, compare_by_keys, moved_back_lem}
 use Rattle.number.proofs.HalfBits.{LowAgrees, halves_low, completed, halves_of_bits_low}
 use Rattle.number.proofs.Halves.{low_half_form, low_half_exact, member_agrees, low_half_agrees, compared_form, excluded_stays, refined32_is}
 use Rattle.number.proofs.Known.{exact_in}

@@ -1,6 +1,6 @@
 -- The operands of an operation: a range modulo m and a Number modulo a power of two, so at w bits and as a count.
 use mathlib.Core.Path.{◌≡◌, refl, sym, ap, ◌∙◌, subst}
-use mathlib.Core.Logic.{◌⊎◌, inl, inr}
+use mathlib.Core.Logic.{inl, inr}
 use Prim.Native.Nat.{ℕ, ◌+◌, ◌-◌, ◌*◌, ◌/◌, ◌%◌, ◌^◌, ◌≤◌, ◌<◌, max}
 use native.Mathlib.Nat.{mod-lt, le_trans, le_refl, le-div_iff_mul-le, div-mul-le_self, mul-le-mul_left, div-add-mod', div-eq_of_lt-le, div-eq_of_lt, mul-add-mod_self_right, mod-eq_of_lt}
 use native.Mathlib.Omega.{arith}

@@ -4,7 +4,6 @@ use Rattle.std.specs.Int.Bits.{bit_and}
 use Rattle.word.specs.declared.Comparison.{Comparison}
 use Rattle.word.specs.declared.Comparison.TheVariants.{Eq, Gt, Ge, Set, Ne, Sgt, Sge, Lt, Le, Slt, Sle}
 use Rattle.word.specs.declared.Operation.TheVariants.{Add}
-use Rattle.known_bits.specs.declared.Bits.{Bits}
 use Rattle.known_bits.specs.declared.Learnt.{Learnt}
 use Rattle.known_bits.specs.declared.Learnt.TheVariants.{Pair, Nothing}
 use Rattle.known_bits.specs.Pair.{top}

@@ -1,5 +1,5 @@
 -- Which numbers a range and a Number stand for, and what it means that one says no less than another.
-use Rattle.std.specs.Prelude.{◌≡◌, Bool, ℕ, ◌^◌, ◌≤◌, ◌<◌}
+use Rattle.std.specs.Prelude.{◌≡◌, Bool, ℕ, ◌^◌, ◌≤◌}
 use Rattle.word.specs.Word.{compare}
 use Rattle.word.specs.declared.Comparison.{Comparison}
 use Rattle.word.specs.declared.Operation.{Operation}

@@ -1,6 +1,6 @@
 -- The range that each operation gives for two ranges: the ends that the results have where no result wraps or all do, and all numbers
 -- otherwise.
-use Rattle.std.specs.Prelude.{Bool, cond, ◌&&◌, ℕ, ◌+◌, ◌-◌, ◌*◌, ◌/◌, ◌%◌, ◌^◌, min, max, eqb, leb, ltb}
+use Rattle.std.specs.Prelude.{Bool, cond, ◌&&◌, ℕ, ◌+◌, ◌-◌, ◌*◌, ◌/◌, ◌^◌, min, max, eqb, leb, ltb}
 use Rattle.std.specs.Int.Bits.{bit_or}
 use Rattle.word.specs.Word.{alu}
 use Rattle.word.specs.declared.Operation.{Operation}

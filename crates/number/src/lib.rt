@@ -1,5 +1,7 @@
 // What the analysis knows of a plain number: known bits and a range, both at once. Types only: what is done with them is defined in specs/
 // and computed by the crate `calculator`.
+#![tactic(auto)]
+
 use known_bits::Bits;
 
 // The numbers from lo to hi; none where hi is below lo.

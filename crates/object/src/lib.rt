@@ -1,5 +1,7 @@
 // A 64-bit little-endian relocatable ELF object for BPF, and where the bytes of its program lie.
 // The definitions that the contracts cite are in `specs/`.
+#![tactic(auto)]
+
 ghost use Rattle.std.specs.Prelude.{true, ◌≡◌, ◌+◌, ◌*◌, ◌<◌, length};
 ghost use Rattle.object.specs.Object.{Answer, Listed, Named, executable};
 

@@ -1,5 +1,7 @@
 // The words of the command line as an order, what is wrong with them, and the help text: all on slices, with no input or output.
 // The arguments are one slice, each followed by a 0 byte. The definitions that the contracts cite are in `specs/`.
+#![tactic(auto)]
+
 ghost use Rattle.std.specs.Prelude.{◌≤◌, length};
 ghost use Rattle.orders.specs.Orders.{Answer, Sane, Stepped};
 

@@ -1,5 +1,7 @@
 // The reading of a program out of a file as a C function, so that a test can lend it damaged files by the thousand in one process.
 // Assumes nothing: whatever the bytes are, the answer is one of the codes below.
+#![tactic(auto)]
+
 ghost use Rattle.std.specs.Prelude.{◌≤◌, length};
 ghost use Rattle.reading.specs.Told.{Told};
 

@@ -8,7 +8,7 @@ use native.Mathlib.Omega.{arith}
 use lib.ListN.{length, length-append}
 use lib.Dec.{ltb}
 use borrow.Author.Tests.{lt-ltb, le-ltb}
-use Rattle.io.specs.Digits.{last_digits}
+use Rattle.io.specs.Digits.{last_digits as io_digits}
 use Rattle.text.specs.Buffer.{last_digits, decimal, Put}
 
 pub one_digit_more : (b : Bool) (s : List ℕ) (d k : ℕ) → length s ≤ k → length (cond b [] s ++ (d ∷ [])) ≤ suc k
@@ -31,7 +31,7 @@ module _ (k n : ℕ) (l : 10 ^ suc k ≤ n) where
   tenth : 10 ^ k ≤ n / 10
   tenth = omega (arith, pow-suc 10 k)
 
-fewest_digits : (f k n : ℕ) → suc k ≤ f → n < 10 ^ suc k → (0 < k → 10 ^ k ≤ n) → last_digits 10 (suc k) n ≡ last_digits f n
+fewest_digits : (f k n : ℕ) → suc k ≤ f → n < 10 ^ suc k → (0 < k → 10 ^ k ≤ n) → io_digits 10 (suc k) n ≡ last_digits f n
 unfolding last_digits
 fewest_digits zero k n h b l = absurd (omega arith)
 fewest_digits (suc f) zero n h b l = simp (lt-ltb (n % 10) 10 (omega arith), lt-ltb n 10 (omega (arith, pow-suc 10 0)))
@@ -46,11 +46,11 @@ module _ (k n : ℕ) (g : (1 ≤ k) × (n < 10 ^ k) × (1 < k → 10 ^ (k - 1) �
       let e : 20 < k → ⊥ = λ h. omega (arith, g.2 (omega arith), pow-le-pow_right {n = 10} (omega arith) {i = 20} {j = k - 1} (omega arith)) in
       omega arith
 
-  decimal_digits : last_digits 10 k n ≡ decimal n
+  decimal_digits : io_digits 10 k n ≡ decimal n
   unfolding decimal
   decimal_digits =
       let e : k ≡ suc (k - 1) = omega (arith, g.0) in
       rw e (fewest_digits 20 (k - 1) n (omega (arith, at_most_twenty, g.0)) (rw e at g.1) (λ w. g.2 (omega arith)))
 
-  pub put_digits : (out : List ℕ) (at : ℕ) (ds m : List ℕ) (r : ℕ) → ds ≡ last_digits 10 k n → Put out at ds m r → Put out at (decimal n) m r
+  pub put_digits : (out : List ℕ) (at : ℕ) (ds m : List ℕ) (r : ℕ) → ds ≡ io_digits 10 k n → Put out at ds m r → Put out at (decimal n) m r
   put_digits out at ds m r e p = rw (e ∙ decimal_digits) at p

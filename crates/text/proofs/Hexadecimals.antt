@@ -1,14 +1,13 @@
 -- The digits that `io::hex` makes are those of the definition, and at most 16.
-use mathlib.Core.Bool.{Bool, true, false, cond}
-use mathlib.Core.List.{List, [], ◌∷◌, ◌++◌}
+use mathlib.Core.List.{List}
 use mathlib.Core.Path.{◌≡◌, ◌∙◌}
-use Prim.Native.Nat.{ℕ, zero, suc, ◌+◌, ◌-◌, ◌/◌, ◌%◌, ◌^◌, ◌≤◌, ◌<◌, min, max}
+use Prim.Native.Nat.{ℕ, zero, suc, ◌-◌, ◌/◌, ◌%◌, ◌^◌, ◌≤◌, ◌<◌, min, max}
 use native.Mathlib.Nat.{pow-suc, one-le-pow, pow-le-pow_right}
 use native.Mathlib.Omega.{arith}
 use lib.ListN.{length}
 use lib.Dec.{ltb}
 use borrow.Author.Tests.{lt-ltb, le-ltb}
-use Rattle.io.specs.Digits.{last_digits}
+use Rattle.io.specs.Digits.{last_digits as io_digits}
 use Rattle.text.specs.Buffer.{glyph, last_sixteens, hexadecimal, Put}
 use Rattle.text.proofs.Decimals.{one_digit_more}
 
@@ -28,7 +27,7 @@ module _ (k n : ℕ) (l : 16 ^ suc k ≤ n) where
   sixteenth : 16 ^ k ≤ n / 16
   sixteenth = omega (arith, pow-suc 16 k)
 
-fewest_sixteens : (f k n : ℕ) → suc k ≤ f → n < 16 ^ suc k → (0 < k → 16 ^ k ≤ n) → last_digits 16 (suc k) n ≡ last_sixteens f n
+fewest_sixteens : (f k n : ℕ) → suc k ≤ f → n < 16 ^ suc k → (0 < k → 16 ^ k ≤ n) → io_digits 16 (suc k) n ≡ last_sixteens f n
 unfolding last_sixteens glyph
 fewest_sixteens zero k n h b l = absurd (omega arith)
 fewest_sixteens (suc f) zero n h b l = simp (lt-ltb n 16 (omega (arith, pow-suc 16 0)))
@@ -43,11 +42,11 @@ module _ (k n : ℕ) (g : (min (max 0 1) 16 ≤ k) × (n < 16 ^ k) × (min (max 
       let e : 16 < k → ⊥ = λ h. omega (arith, g.2 (omega arith), pow-le-pow_right {n = 16} (omega arith) {i = 16} {j = k - 1} (omega arith)) in
       omega arith
 
-  hexadecimal_digits : last_digits 16 k n ≡ hexadecimal n
+  hexadecimal_digits : io_digits 16 k n ≡ hexadecimal n
   unfolding hexadecimal
   hexadecimal_digits =
       let e : k ≡ suc (k - 1) = omega (arith, g.0) in
       rw e (fewest_sixteens 16 (k - 1) n (omega (arith, at_most_sixteen, g.0)) (rw e at g.1) (λ w. g.2 (omega arith)))
 
-  pub put_sixteens : (out : List ℕ) (at : ℕ) (ds m : List ℕ) (r : ℕ) → ds ≡ last_digits 16 k n → Put out at ds m r → Put out at (hexadecimal n) m r
+  pub put_sixteens : (out : List ℕ) (at : ℕ) (ds m : List ℕ) (r : ℕ) → ds ≡ io_digits 16 k n → Put out at ds m r → Put out at (hexadecimal n) m r
   put_sixteens out at ds m r e p = rw (e ∙ hexadecimal_digits) at p

@@ -1,5 +1,7 @@
 // Words, numbers and bytes read from text, and text put into a lent buffer: all on slices, with no input or output.
 // The definitions that the contracts cite are in `specs/`.
+#![tactic(auto)]
+
 pub mod buffer;
 pub mod digit;
 pub mod dump;

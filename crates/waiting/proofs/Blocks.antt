@@ -1,30 +1,24 @@
 -- How words hold the states that wait: a block is written, and the others wait as they did.
-use Prim.Native.Nat.{ℕ, zero, suc, ◌+◌, ◌-◌, ◌*◌, ◌≤◌, ◌<◌}
+use Prim.Native.Nat.{ℕ, ◌+◌, ◌-◌, ◌*◌, ◌≤◌, ◌<◌}
 use mathlib.Core.Path.{◌≡◌, refl, sym, ap, ap₂, ◌∙◌, subst, fun_ext}
 use mathlib.Core.Bool.{Bool, true, false, cond}
 use mathlib.Core.Logic.{◌⊎◌, inl, inr, ⊎_elim}
 use mathlib.Core.Option.{Option, none, some}
-use mathlib.Core.List.{List, [], ◌∷◌}
-use lib.ListN.{length, get_or, set, replicate, length-set}
+use mathlib.Core.List.{List}
+use lib.ListN.{length, get_or, set, length-set}
 use lib.Seq.{get_or-set_same, get_or-set_other}
 use lib.Dec.{ltb, eqb}
 use native.Mathlib.Omega.{arith}
 use native.Mathlib.Nat.{eq-or-lt_of_le}
 use borrow.Author.Tests.{ne_eqb, eqb-true, eqb-false, lt-ltb, ltb-true, ltb-false}
-use Rattle.number.specs.declared.Number.{Number}
-use Rattle.number.specs.Sharpen.{exact}
-use Rattle.analysis.specs.declared.Region.TheVariants.{Record, Stack}
-use Rattle.analysis.specs.declared.Gone.TheVariants.{Never}
-use Rattle.analysis.specs.declared.Value.{Value}
-use Rattle.analysis.specs.declared.Value.TheVariants.{Unusable, Address}
-use Rattle.analysis.specs.Values.{Facts, value_of, start_facts, joined_value, joined_values, joined_facts, meeting}
+use Rattle.analysis.specs.Values.{Facts, start_facts, joined_facts, meeting}
 use Rattle.analysis.specs.Judged.{Waiting, nobody, having, arrive}
 use Rattle.waiting.specs.declared.value.Held.{Held}
-use Rattle.waiting.specs.State.{of_kind, held_in, held_at, values_at, facts_at, nothing_known, Wrote, Holds, Changed, Stored}
+use Rattle.waiting.specs.State.{held_in, held_at, facts_at, Changed, Stored}
 use Rattle.waiting.specs.Store.{waiting_in, Cleared, Arrived, Begun}
 use Rattle.waiting.specs.Layout.{value_words, state_words, block_words, state_of}
 use Rattle.waiting.proofs.States.{a_changed_register_is_stored}
-use Rattle.waiting.proofs.Words.{equal_words_hold_equal_values, number_of_values, value_of_a_state, equal_words_hold_equal_states, a_state_is_its_values, Storing, one_more_is_stored, equal_values_have_equal_words}
+use Rattle.waiting.proofs.Words.{equal_words_hold_equal_states, equal_values_have_equal_words}
 
 -- ---- blocks
 

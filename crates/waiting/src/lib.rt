@@ -1,5 +1,7 @@
 // The states that wait for the indices of a program, in lent words, and nothing of how they come about: values, states, and the store that has
 // one block for each index.
+#![tactic(auto)]
+
 pub mod state;
 pub mod store;
 pub mod value;

@@ -1,0 +1,18 @@
+-- `moved32`: each shift by its function.
+use Rattle.known_bits.specs.Shift.{operation}
+use borrow.Author.Rules.{rules}
+use Rattle.bit_calculator.proofs.shifts.moved32.Goals as goal
+
+-- NOTE: 9 old answers, 6 goals
+
+pub returns-in-Left : goal.returns-in-Left
+unfolding operation
+returns-in-Left c = search rules
+
+pub returns-in-Right : goal.returns-in-Right
+unfolding operation
+returns-in-Right c = search rules
+
+pub returns-in-Signed : goal.returns-in-Signed
+unfolding operation
+returns-in-Signed c = search rules

@@ -1,9 +1,0 @@
--- `add32` is the formula.
-use Rattle.known_bits.specs.Formula.{sum}
-use borrow.Author.Rules.{rules}
-use Rattle.bit_calculator.proofs.sums.add32.Statement.{statement}
-use Rattle.bit_calculator.proofs.sums.add32.Tie as tie
-
-pub add32_spec : {M : Type 1} → statement M
-unfolding sum
-add32_spec = tie.close (tie.spec (λ c κs. search rules) (λ c κs. search rules) (λ c κs. search rules) (λ c. cc))

@@ -1,0 +1,14 @@
+-- `skip` answers the first place of another character. The loop keeps the place that is to be found, counted from where it stands.
+-- The measure is what is left of the text.
+use native.Mathlib.Omega.{arith}
+use Rattle.text.proofs.Scans.{leading_here, leading_more, leading_end}
+use Rattle.text.proofs.scan.skip.Goals as goal
+
+pub returns-then-s-i : goal.returns-then-s-i
+returns-then-s-i c = record { start = omega arith; inside = omega arith; place = omega (arith, leading_here c.args.s.now c.loop-i.i c.args.b (omega arith) c.if-s-i.true) }
+
+pub loop-i-preserved : goal.loop-i-preserved
+loop-i-preserved c = (omega arith, (omega arith, omega (arith, leading_more c.args.s.now c.loop-i.i c.args.b (omega arith) c.if-s-i.false)))
+
+pub returns : goal.returns
+returns c = record { start = omega arith; inside = omega arith; place = omega (arith, leading_end c.args.s.now c.loop-i.i c.args.b (omega arith)) }

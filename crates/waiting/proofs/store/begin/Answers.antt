@@ -1,0 +1,9 @@
+-- `begin`: the marks are cleared, and the start is written to the first block and marked.
+use Rattle.waiting.proofs.Blocks.{the_start_waits}
+use Rattle.waiting.proofs.store.begin.Goals as goal
+
+-- NOTE: 5 old answers, 4 goals
+
+pub returns : goal.returns
+returns c =
+    the_start_waits _ _ _ _ c.requires.0 c.requires.1 c.clear.ensures c.write_start.ensures
