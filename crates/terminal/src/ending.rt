@@ -55,7 +55,7 @@ fn warn_why<R: Terminal>(rt: &R, error: io::Error) -> io::Result<()> {
 }
 
 // Writes a line to standard error: what failed, and why, as the system names it.
-pub fn explain(rt: &impl Terminal, what: &[u8], error: io::Error) {
+pub fn tell_why(rt: &impl Terminal, what: &[u8], error: io::Error) {
     let _ = rt.warn(what);
     let _ = rt.warn(b": ");
     let _ = warn_why(rt, error);
@@ -64,7 +64,7 @@ pub fn explain(rt: &impl Terminal, what: &[u8], error: io::Error) {
 
 // Ends because what was to be said could not be written.
 pub fn fail(rt: &impl Terminal, error: io::Error) {
-    explain(rt, b"probewarden: standard output", error);
+    tell_why(rt, b"probewarden: standard output", error);
     status(rt, b'2');
 }
 
