@@ -1,38 +1,79 @@
-// How a start ends: a line on a descriptor, and the status.
+// How a start ends: a line on standard output or standard error, and the status.
 ghost use Rattle.std.specs.Prelude.{◌≤◌, length};
 
-pub fn status(d: u8) {
-    io::write_all(3, &[d]);
+use crate::host::Terminal;
+use std::fs::OpenOptions;
+use std::io;
+use std::io::Write;
+
+// Where the status is wanted.
+const STATUS: &str = "/dev/fd/3";
+
+fn write_status(rt: &impl Terminal, d: u8) -> io::Result<()> {
+    let mut file = OpenOptions::new().append(true).open(rt, STATUS)?;
+    file.write_all(&[d])
 }
 
-// Says the first n bytes of `out` on a descriptor.
-pub fn say(fd: i32, out: &[u8], n: usize) -> bool
+// Writes the status on descriptor 3. Where that is not open, nobody asks for it.
+pub fn status(rt: &impl Terminal, d: u8) {
+    let _ = write_status(rt, d);
+}
+
+// Says the first n bytes of `out` on standard output.
+pub fn say(rt: &impl Terminal, out: &[u8], n: usize) -> io::Result<()>
     requires { n ≤ length out.now }
 {
-    io::write_all(fd, &out[0..n])
+    rt.write_all(&out[0..n])
+}
+
+// Says the first n bytes of `out` on standard error.
+pub fn complain(rt: &impl Terminal, out: &[u8], n: usize)
+    requires { n ≤ length out.now }
+{
+    let _ = rt.warn(&out[0..n]);
 }
 
 // Ends with a line on standard error.
-pub fn stop(out: &[u8], n: usize)
+pub fn stop(rt: &impl Terminal, out: &[u8], n: usize)
     requires { n ≤ length out.now }
 {
-    say(2, out, n);
-    status(b'2');
+    complain(rt, out, n);
+    status(rt, b'2');
+}
+
+// The system's words alone, without the number that std puts behind them.
+fn words_of(text: &str) -> &str {
+    match text.split_once(" (os error ") {
+        Some((words, _)) => words,
+        None => text,
+    }
+}
+
+fn warn_why<R: Terminal>(rt: &R, error: io::Error) -> io::Result<()> {
+    let text = format!(in rt.alloc(); "{error}")?;
+    rt.warn(words_of(text.as_str()).as_bytes())
+}
+
+// Writes a line to standard error: what failed, and why, as the system names it.
+pub fn explain(rt: &impl Terminal, what: &[u8], error: io::Error) {
+    let _ = rt.warn(what);
+    let _ = rt.warn(b": ");
+    let _ = warn_why(rt, error);
+    let _ = rt.warn(b"\n");
 }
 
 // Ends because what was to be said could not be written.
-pub fn fail() {
-    os::fail(b"probewarden: standard output");
-    status(b'2');
+pub fn fail(rt: &impl Terminal, error: io::Error) {
+    explain(rt, b"probewarden: standard output", error);
+    status(rt, b'2');
 }
 
 // Ends with a line on standard output, whose status is `d` if it could be written.
-pub fn finish(out: &[u8], n: usize, d: u8)
+pub fn finish(rt: &impl Terminal, out: &[u8], n: usize, d: u8)
     requires { n ≤ length out.now }
 {
-    if say(1, out, n) {
-        status(d);
-        return;
+    match say(rt, out, n) {
+        Ok(()) => status(rt, d),
+        Err(error) => fail(rt, error),
     }
-    fail();
 }

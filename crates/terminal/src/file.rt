@@ -1,7 +1,12 @@
 // The bytes of a file, or of standard input; what is wrong is said on standard error.
-ghost use Rattle.std.specs.Prelude.{◌≤◌, length};
+ghost use Rattle.std.specs.Prelude.{◌≡◌, ◌≤◌, length, IfOk};
 
-use crate::ending::say;
+use crate::ending::{complain, explain};
+use crate::host::Terminal;
+use std::fs::File;
+use std::io;
+use std::io::{ErrorKind, Read};
+use std::str::from_utf8;
 use text::page::{write_decimal, write_text};
 use text::scan::same;
 
@@ -12,59 +17,97 @@ pub struct Input {
     pub count: usize,
 }
 
-// Says why the file at `path` cannot be read, as the system names it.
-fn cannot_read(path: &[u8], out: &mut [u8]) {
-    let a = write_text(out, 0, b"probewarden: cannot read ");
-    let b = write_text(out, a, path);
-    os::fail(&out[0..b]);
+fn unread() -> Input
+    ensures { result.count ≡ 0 }
+{
+    Input {
+        read: false,
+        count: 0,
+    }
 }
 
-fn too_long(path: &[u8], room: usize, out: &mut [u8]) {
+// Says why the file at `path` cannot be read, as the system names it.
+fn cannot_read(rt: &impl Terminal, path: &[u8], error: io::Error, out: &mut [u8]) {
+    let a = write_text(out, 0, b"probewarden: cannot read ");
+    let b = write_text(out, a, path);
+    explain(rt, &out[0..b], error);
+}
+
+fn too_long(rt: &impl Terminal, path: &[u8], room: usize, out: &mut [u8]) {
     let a = write_text(out, 0, b"probewarden: ");
     let b = write_text(out, a, path);
     let c = write_text(out, b, b": the file has ");
     let d = write_decimal(out, c, room as u64);
     let e = write_text(out, d, b" bytes or more, which is too long\n");
-    say(2, out, e);
+    complain(rt, out, e);
 }
 
-// Whether n bytes are all of a file: one that fills the buffer may go on, and of one that gives nothing the system may say why.
-fn is_whole(path: &[u8], n: usize, room: usize, out: &mut [u8]) -> bool {
+// Whether n bytes are all of a file: one that fills the buffer may go on.
+fn is_whole(rt: &impl Terminal, path: &[u8], n: usize, room: usize, out: &mut [u8]) -> bool {
     if n == room {
-        too_long(path, room, out);
-        return false;
-    }
-    if (n == 0) & (os::errno() != 0) {
-        cannot_read(path, out);
+        too_long(rt, path, room, out);
         return false;
     }
     true
 }
 
-fn read_from(fd: i32, path: &[u8], file: &mut [u8], out: &mut [u8]) -> Input
+// Reads until the buffer is full or the input ends, and answers how many bytes came.
+fn read_full<I: Read>(input: &mut I, file: &mut [u8]) -> io::Result<usize>
+    ensures { IfOk result (λ n. n ≤ length file.old) }
+{
+    let mut done = 0;
+    while done < file.len() {
+        let n = input.read(&mut file[done..])?;
+        if n == 0 {
+            return Ok(done);
+        }
+        done += n;
+    }
+    Ok(done)
+}
+
+fn read_from<R: Terminal, I: Read>(
+    rt: &R,
+    input: &mut I,
+    path: &[u8],
+    file: &mut [u8],
+    out: &mut [u8],
+) -> Input
     ensures { result.count ≤ length file.old }
 {
-    let count = io::read_full(fd, file);
-    let read = is_whole(path, count, file.len(), out);
-    Input { read, count }
+    match read_full(input, file) {
+        Ok(count) => {
+            let read = is_whole(rt, path, count, file.len(), out);
+            Input { read, count }
+        }
+        Err(error) => {
+            cannot_read(rt, path, error, out);
+            unread()
+        }
+    }
+}
+
+// Opens the file at `path`. A path is text, as std has it.
+fn open<R: Terminal>(rt: &R, path: &[u8]) -> io::Result<R::File> {
+    match from_utf8(path) {
+        Ok(name) => File::open(rt, name),
+        Err(_) => Err(io::Error::new(ErrorKind::InvalidInput, "the path is not UTF-8")),
+    }
 }
 
 // Reads the file at `path`, or standard input where the path is a dash.
-pub fn read_file(path: &[u8], file: &mut [u8], out: &mut [u8]) -> Input
+pub fn read_file<R: Terminal>(rt: &R, path: &[u8], file: &mut [u8], out: &mut [u8]) -> Input
     ensures { result.count ≤ length file.old }
 {
     if same(path, b"-") {
-        return read_from(0, b"standard input", file, out);
+        let mut input = rt.reader();
+        return read_from(rt, &mut input, b"standard input", file, out);
     }
-    let fd = os::open_read(path);
-    if fd < 0 {
-        cannot_read(path, out);
-        return Input {
-            read: false,
-            count: 0,
-        };
+    match open(rt, path) {
+        Ok(mut input) => read_from(rt, &mut input, path, file, out),
+        Err(error) => {
+            cannot_read(rt, path, error, out);
+            unread()
+        }
     }
-    let input = read_from(fd, path, file, out);
-    libc::close(fd);
-    input
 }

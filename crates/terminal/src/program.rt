@@ -5,6 +5,7 @@ ghost use Rattle.orders.specs.Orders.{Placed};
 
 use crate::ending::{status, stop};
 use crate::file::read_file;
+use crate::host::Terminal;
 use loading::{Loaded, load};
 use orders::Order;
 use text::page::write_text;
@@ -28,7 +29,14 @@ fn nothing() -> Fetched
     }
 }
 
-fn refuse_file(args: &[u8], file: &[u8], order: Order, loaded: Loaded, out: &mut [u8])
+fn refuse_file(
+    rt: &impl Terminal,
+    args: &[u8],
+    file: &[u8],
+    order: Order,
+    loaded: Loaded,
+    out: &mut [u8],
+)
     requires { Placed (length args.now) order }
 {
     let path = order.file;
@@ -38,19 +46,26 @@ fn refuse_file(args: &[u8], file: &[u8], order: Order, loaded: Loaded, out: &mut
     let first = section.start;
     let last = section.end;
     let n = loading::complain(&args[start..end], file, &args[first..last], loaded, out);
-    stop(out, n);
+    stop(rt, out, n);
 }
 
 // Says what is wrong with a file that holds no program.
-fn test_file(args: &[u8], file: &[u8], order: Order, loaded: Loaded, out: &mut [u8])
+fn test_file(
+    rt: &impl Terminal,
+    args: &[u8],
+    file: &[u8],
+    order: Order,
+    loaded: Loaded,
+    out: &mut [u8],
+)
     requires { Placed (length args.now) order }
 {
     match loaded {
         Loaded::InFile { start: _, end: _ } => {}
         Loaded::Spelled { length: _ } => {}
-        Loaded::BadObject(_) => refuse_file(args, file, order, loaded, out),
-        Loaded::BadDump(_) => refuse_file(args, file, order, loaded, out),
-        Loaded::Nothing => refuse_file(args, file, order, loaded, out),
+        Loaded::BadObject(_) => refuse_file(rt, args, file, order, loaded, out),
+        Loaded::BadDump(_) => refuse_file(rt, args, file, order, loaded, out),
+        Loaded::Nothing => refuse_file(rt, args, file, order, loaded, out),
     }
 }
 
@@ -76,6 +91,7 @@ fn keep(file: &[u8], loaded: Loaded, program: &mut [u8]) -> Fetched
 
 // The program in the bytes of a file.
 fn find_program(
+    rt: &impl Terminal,
     args: &[u8],
     file: &[u8],
     order: Order,
@@ -91,11 +107,12 @@ fn find_program(
     let first = section.start;
     let last = section.end;
     let loaded = load(file, kind, &args[first..last], bare, program);
-    test_file(args, file, order, loaded, out);
+    test_file(rt, args, file, order, loaded, out);
     keep(file, loaded, program)
 }
 
 fn fetch(
+    rt: &impl Terminal,
     args: &[u8],
     order: Order,
     file: &mut [u8],
@@ -109,21 +126,34 @@ fn fetch(
     let path = order.file;
     let start = path.start;
     let end = path.end;
-    let input = read_file(&args[start..end], file, out);
+    let input = read_file(rt, &args[start..end], file, out);
     let n = input.count;
     if !input.read {
-        status(b'2');
+        status(rt, b'2');
         return nothing();
     }
-    find_program(args, &file[0..n], order, bare, program, out)
+    find_program(rt, args, &file[0..n], order, bare, program, out)
+}
+
+// N zeros, of which a caller's proof sees the number and not each one.
+fn zeros<const N: usize>() -> [u8; N]
+    ensures { length result ≡ N }
+{
+    [0; N]
 }
 
 // The program's bytes, at the start of `program`. If there is none, that has been said, with the status.
-pub fn fetch_program(args: &[u8], order: Order, program: &mut [u8], out: &mut [u8]) -> Fetched
+pub fn fetch_program(
+    rt: &impl Terminal,
+    args: &[u8],
+    order: Order,
+    program: &mut [u8],
+    out: &mut [u8],
+) -> Fetched
     requires { Placed (length args.now) order }
     ensures { result.length ≤ length program.old }
 {
-    let mut file = [0u8; LONGEST_FILE];
-    let mut bare = [0u8; LONGEST_FILE];
-    fetch(args, order, &mut file, &mut bare, program, out)
+    let mut file = zeros::<LONGEST_FILE>();
+    let mut bare = zeros::<LONGEST_FILE>();
+    fetch(rt, args, order, &mut file, &mut bare, program, out)
 }
