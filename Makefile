@@ -2,13 +2,13 @@
 PREFIX ?= /usr/local
 DESTDIR ?=
 VERSION = 0.7.0
-ARCHIVE = target/staticlib/libprobewarden.a
+ARCHIVE = crates/probewarden/out/libprobewarden.a
 
 all: $(ARCHIVE)
 
 # rt knows by itself what has changed since
 $(ARCHIVE): FORCE
-	rt staticlib probewarden
+	cd crates/probewarden && rt lib
 
 install: $(ARCHIVE)
 	mkdir -p $(DESTDIR)$(PREFIX)/lib/pkgconfig $(DESTDIR)$(PREFIX)/include

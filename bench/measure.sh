@@ -14,7 +14,7 @@ stop() {
 find_tools() {
     command -v rt >/dev/null || [ -n "${KIT:+${PW_ARCHIVE:-}}" ] || stop 'rt is not on the PATH: install the Rattle toolchain and add its bin folder to the PATH'
     machine=${MACHINE:-$(uname -m)}
-    kit=${KIT:-$(dirname "$(dirname "$(rt doc)")")/on/$machine/toolchain}
+    kit=${KIT:-$(dirname "$(rt doc)")/toolchain}
     lib=$kit/lib
     emulator=
     [ -x "$kit/bin/clang" ] || stop "$kit/bin/clang is missing: the toolchain must be whole, and for this processor ($machine)"
@@ -29,15 +29,15 @@ find_tools() {
 
 # the library, as $archive
 make_archive() {
-    archive=${PW_ARCHIVE:-target/staticlib/libprobewarden.a}
+    archive=${PW_ARCHIVE:-crates/probewarden/out/libprobewarden.a}
     if [ -z "${PW_ARCHIVE:-}" ]; then
-        echo 'bench/run: rt staticlib probewarden, which proves what has changed' >&2
-        rt staticlib probewarden >"$work/log" 2>&1 || {
+        echo 'bench/run: rt lib in crates/probewarden, which proves what has changed' >&2
+        (cd crates/probewarden && rt lib) >"$work/log" 2>&1 || {
             tail -n 20 "$work/log" >&2
-            stop 'the library was not built: rt staticlib probewarden says why, above'
+            stop 'the library was not built: rt lib says why, above'
         }
     fi
-    [ -f "$archive" ] || stop "the archive $archive is missing: build it by rt staticlib probewarden, or unset PW_ARCHIVE"
+    [ -f "$archive" ] || stop "the archive $archive is missing: build it by rt lib in crates/probewarden, or unset PW_ARCHIVE"
 }
 
 # compile FOLDER FLAG..: the C files by the toolchain's clang with -O2, as objects in the folder

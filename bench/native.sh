@@ -11,7 +11,7 @@ choose_times() {
     processor=$(uname -m)
     if [ -n "${PW_ARCHIVE:-}" ]; then
         times=
-        echo "no times: on $processor they are of the module that rt staticlib makes an archive of, and PW_ARCHIVE names an archive alone"
+        echo "no times: on $processor they are of the module that rt lib makes an archive of, and PW_ARCHIVE names an archive alone"
     elif ! command -v cc >/dev/null; then
         times=
         echo "no times: on $processor they are of a driver that the machine's C compiler, cc, links, and there is none: install one for times"
@@ -24,10 +24,10 @@ choose_times() {
 # A toolchain of links, all but its clang, which keeps the module that it is given. rt takes it from here on.
 keep_module() {
     mkdir "$native"
-    from=$(cd "$(dirname "$(rt doc)")/.." && pwd) to=$native/kit
+    from=$(dirname "$(rt doc)") to=$native/kit
     mkdir "$to"
     ln -s "$from"/* "$to"
-    for inner in on "$processor" toolchain bin; do
+    for inner in toolchain bin; do
         from=$from/$inner to=$to/$inner
         rm "$to"
         mkdir "$to"
@@ -45,7 +45,7 @@ END
 
 # The module loses what it says of x86-64, and is compiled by the flags that rt has for the archive. The machine's own C compiler links.
 make_native() {
-    [ -f "$native/module.bc" ] || stop 'rt staticlib gave clang no module, so that there is nothing to take times of: bench/run -q takes none'
+    [ -f "$native/module.bc" ] || stop 'rt lib gave clang no module, so that there is nothing to take times of: bench/run -q takes none'
     target=$processor-unknown-linux-gnu
     "$kit/bin/clang" --target=x86_64-unknown-linux-gnu -O0 -Xclang -disable-llvm-passes -S -emit-llvm -x ir "$native/module.bc" \
         -o "$native/module.ll" || stop 'the module was not turned into text'

@@ -13,7 +13,7 @@ if [ "$x86_machine" = x86_64 ]; then
     }
     run_x86() { "$@"; }
 else
-    KIT=${KIT:-$(dirname "$(dirname "$(rt doc)")")/on/$x86_machine/toolchain}
+    KIT=${KIT:-$(dirname "$(rt doc)")/toolchain}
     x86_lib=$KIT/lib
 
     # Each C source becomes an object beside OUT; archives and objects are linked after them, in their order.

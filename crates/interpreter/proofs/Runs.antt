@@ -2,7 +2,7 @@
 use mathlib.Core.Path.{◌≡◌, refl, ap, subst, ◌∙◌}
 use mathlib.Core.Bool.{Bool, true, false, ◌||◌, true≢false}
 use mathlib.Core.List.{List}
-use Prim.Native.Nat.{ℕ, zero, suc, ◌+◌, ◌-◌, ◌*◌, ◌/◌, ◌^◌, ◌≤◌, ◌<◌}
+use Prim.Native.Nat.{ℕ, suc, ◌+◌, ◌-◌, ◌*◌, ◌/◌, ◌^◌, ◌≤◌, ◌<◌}
 use native.Mathlib.Nat.{sub-zero}
 use native.Mathlib.Omega.{arith}
 use lib.ListN.{length, set, replicate}
@@ -13,7 +13,7 @@ use Rattle.machine.specs.declared.outcome.Cause.{Cause}
 use Rattle.machine.specs.declared.outcome.Cause.TheVariants.{OffEnd}
 use Rattle.machine.specs.declared.outcome.Outcome.TheVariants.{Verdict, Fault, Budget, Refused}
 use Rattle.machine.specs.Instruction.{Fields, fields, meaning, decode}
-use Rattle.machine.specs.Machine.{World, State, goes, ends, faults, Done, obey, step, runs, start, bad_program, bad_record, bad_stack, bad_address, overlap, refused, interpreted}
+use Rattle.machine.specs.Machine.{World, State, faults, Done, obey, step, runs, start, bad_program, bad_record, bad_stack, bad_address, overlap, refused, interpreted}
 use Rattle.dispatch.specs.declared.answer.Next.{Next}
 use Rattle.dispatch.specs.declared.answer.Next.TheVariants.{Go, Exit, Stop}
 use Rattle.dispatch.specs.Represent.{is_set, content_of, contents, state_of, cause_of, comes, Leads}

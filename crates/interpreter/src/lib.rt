@@ -1,5 +1,7 @@
 // The interpreter: what is refused, the cleared stack, and steps until the probe ends or its budget is spent. Outcome and
 // stack are those of the machine's definition, on any program bytes and any record.
+#![tactic(auto)]
+
 ghost use Rattle.std.specs.Prelude.{◌≡◌, ℕ, ◌+◌, ◌≤◌, ◌<◌, ◌^◌, length, replicate};
 ghost use Rattle.machine.specs.Machine.{step as stepped, runs, start, bad_address, refused, interpreted};
 ghost use Rattle.machine.specs.Machine.{overlap as overlapping};
@@ -25,7 +27,7 @@ pub fn step(
 ) -> Next
     requires regs_len { length regs.old ≡ 16 }
     requires live_bound { live < 2 ^ 11 }
-    ensures { LeadsOn result regs.old regs.new stack.old stack.new live pc (λ t. stepped program.now (record { rec = rec.entry.now; P = p; S = s }) t) }
+    ensures { LeadsOn result regs.old regs.new stack.old stack.new live pc (λ t. stepped program.now (record { rec = rec.now; P = p; S = s }) t) }
 {
     if ((program.len() / 8) as u64) <= pc {
         return Next::Stop;
@@ -40,7 +42,7 @@ pub fn step(
 fn run(program: &[u8], rec: &[u8], p: u64, s: u64, stack: &mut [u8], budget: u64) -> Outcome
     requires s_bound { s ≤ 2 ^ 47 }
     requires stack_value { stack.old ≡ replicate 512 0 }
-    ensures { record { outcome = result; stack = stack.new } ≡ runs program.now (record { rec = rec.entry.now; P = p; S = s }) budget 0 (start (record { rec = rec.entry.now; P = p; S = s })) }
+    ensures { record { outcome = result; stack = stack.new } ≡ runs program.now (record { rec = rec.now; P = p; S = s }) budget 0 (start (record { rec = rec.now; P = p; S = s })) }
 {
     let mut regs = [0u64; 16];
     regs[1] = p;

@@ -1,22 +1,18 @@
 -- The best pair for the three shifts at w bits, by a count whose low bits are known, or known but for one: value and mask are shifted
 -- alike by each count, and the pairs joined.
 use mathlib.Core.Bool.{true}
-use mathlib.Core.Path.{◌≡◌, sym, ap, ◌∙◌, subst}
+use mathlib.Core.Path.{◌≡◌, sym, ap, ◌∙◌}
 use mathlib.Core.Logic.{◌⊎◌, inl, inr}
-use Prim.Native.Nat.{ℕ, ◌+◌, ◌-◌, ◌*◌, ◌/◌, ◌%◌, ◌^◌, ◌≤◌, ◌<◌, min}
-use native.Mathlib.Nat.{lt_of_le_of_lt, mod-lt}
+use Prim.Native.Nat.{ℕ, ◌+◌, ◌-◌, ◌*◌, ◌/◌, ◌%◌, ◌^◌, ◌<◌}
+use native.Mathlib.Nat.{mod-lt}
 use native.Mathlib.Decide.{dec_lt}
 use native.Mathlib.Omega.{arith}
 use lib.Bits.{bit_and}
-use lib.Pow.{high, pow_pos, shr_le, split, ones_sub-lt}
+use lib.Pow.{high, pow_pos, split}
 use borrow.Author.Tests.{eqb-true}
-use Rattle.word.specs.Word.{bit, cut, alu, shift_signed}
+use Rattle.word.specs.Word.{bit, alu}
 use Rattle.word.specs.declared.Operation.{Operation}
-use Rattle.word.specs.declared.Operation.TheVariants.{Lsh, Rsh, Arsh}
-use Rattle.word.proofs.Bit.{bit_lt, bit_zero, bit_and_lem, bit_mod, bit_high, bit_not, bit_shr, bit_shl, bit_shl_low, low_eq, some_bit}
-use Rattle.word.proofs.Cut.{cut_small}
-use Rattle.word.proofs.Extend.{two_halves, shift_low, shift_high}
-use Rattle.word.proofs.Pinned.{result_below}
+use Rattle.word.proofs.Bit.{bit_lt, bit_zero, bit_and_lem, bit_mod, low_eq, some_bit}
 use Rattle.known_bits.specs.declared.Bits.{Bits}
 use Rattle.known_bits.specs.Formula.{shifted_by, joined, single}
 use Rattle.known_bits.specs.KnownBits.{Well, Mem, Best}
@@ -24,108 +20,10 @@ use Rattle.known_bits.specs.Pair.{top}
 use Rattle.known_bits.proofs.Class4.{Width}
 use Rattle.known_bits.proofs.Joined.{joined_best_of_both_sets}
 use Rattle.known_bits.proofs.Tight.{digit, apart_bit, top_bit, mem_least, mem_top}
-use Rattle.known_bits.proofs.Laws.{best_same_set, high_bit}
-use Rattle.known_bits.proofs.Methods.{Image1, Image, From, selected}
-
--- ---- where the digits come from, for x of w bits and n places
-module _ (w n k x : ℕ) (l : k < w) (hx : x < 2 ^ w) where
-  clear_bit : x < 2 ^ (w - 1) → bit k (x / 2 ^ n) ≡ bit (min (n + k) (w - 1)) x
-  clear_bit s = go (dec_lt (n + k) w)
-    where
-      go : Dec (n + k < w) → bit k (x / 2 ^ n) ≡ bit (min (n + k) (w - 1)) x
-      go (yes h) = bit_shr n k x ∙ ap (λ (m : ℕ). bit m x) (omega arith)
-      go (no h) =
-          bit_shr n k x ∙ high_bit w (n + k) x h hx
-          ∙ sym (bit_high (w - 1) x s) ∙ ap (λ (m : ℕ). bit m x) (omega arith)
-
-  set_bit : 2 ^ (w - 1) ≤ x → bit k (2 ^ w - 1 - (2 ^ w - 1 - x) / 2 ^ n) ≡ bit (min (n + k) (w - 1)) x
-  set_bit s = bit_not w k (y / 2 ^ n) l (lt_of_le_of_lt (shr_le y n) hy) ∙ ap (λ (m : ℕ). 1 - m) (bit_shr n k y) ∙ go (dec_lt (n + k) w)
-    where
-      y : ℕ
-      y = 2 ^ w - 1 - x
-
-      hy : y < 2 ^ w
-      hy = ones_sub-lt w x
-
-      top_clear : y < 2 ^ (w - 1)
-      top_clear = omega (arith, two_halves w (omega arith))
-
-      go : Dec (n + k < w) → 1 - bit (n + k) y ≡ bit (min (n + k) (w - 1)) x
-      go (yes h) =
-          let i : min (n + k) (w - 1) ≡ n + k = omega arith in
-          omega (arith, bit_not w (n + k) x h hx, bit_lt (n + k) x, ap (λ (m : ℕ). bit m x) i)
-      go (no h) =
-          let i : min (n + k) (w - 1) ≡ w - 1 = omega arith in
-          omega (
-            arith,
-            high_bit w (n + k) y h hy,
-            bit_not w (w - 1) x (omega arith) hx,
-            bit_high (w - 1) y top_clear,
-            bit_lt (w - 1) x,
-            ap (λ (m : ℕ). bit m x) i,
-          )
-
-  -- the digit n places up, or the top one
-  signed_bit : bit k (shift_signed w x n) ≡ bit (min (n + k) (w - 1)) x
-  signed_bit = go (dec_lt x (2 ^ (w - 1)))
-    where
-      go : Dec (x < 2 ^ (w - 1)) → bit k (shift_signed w x n) ≡ bit (min (n + k) (w - 1)) x
-      go (yes s) = ap (bit k) (shift_low w x n s) ∙ clear_bit s
-      go (no s) = ap (bit k) (shift_high w x n (omega arith)) ∙ set_bit (omega arith)
-
-module _ (w n k : ℕ) (l : k < w) where
-  lsh_from : From w (λ x. alu w Lsh x n) k
-  unfolding alu
-  lsh_from = go (dec_lt k (n % w))
-    where
-      m : ℕ
-      m = n % w
-
-      go : Dec (k < m) → From w (λ x. alu w Lsh x n) k
-      go (yes h) = inr (λ x hx. bit_mod w k (cut w x * 2 ^ m) l ∙ bit_shl_low m k (cut w x) h)
-      go (no h) = inl (
-        k - m,
-        omega arith,
-        λ x hx. bit_mod w k (cut w x * 2 ^ m) l
-            ∙ subst (λ (i : ℕ). bit i (cut w x * 2 ^ m) ≡ bit (k - m) (cut w x)) (omega arith) (bit_shl m (k - m) (cut w x))
-            ∙ ap (bit (k - m)) (cut_small w hx),
-      )
-
-  rsh_from : From w (λ x. alu w Rsh x n) k
-  unfolding alu
-  rsh_from = go (dec_lt (n % w + k) w)
-    where
-      m : ℕ
-      m = n % w
-
-      shifted : (x : ℕ) → x < 2 ^ w → bit k (cut w x / 2 ^ m) ≡ bit (m + k) x
-      shifted x hx = bit_shr m k (cut w x) ∙ ap (bit (m + k)) (cut_small w hx)
-
-      go : Dec (m + k < w) → From w (λ x. alu w Rsh x n) k
-      go (yes h) = inl (m + k, h, shifted)
-      go (no h) = inr (λ x hx. shifted x hx ∙ high_bit w (m + k) x h hx)
-
-  arsh_from : From w (λ x. alu w Arsh x n) k
-  unfolding alu
-  arsh_from =
-      inl (min (n % w + k) (w - 1), omega arith, λ x hx. ap (λ (y : ℕ). bit k (shift_signed w y (n % w))) (cut_small w hx) ∙ signed_bit w (n % w) k x l hx)
-
--- ---- what makes an operation a shift: only the low bits of the count matter, and each digit comes from one digit
-pub record Counts (w : ℕ) (op : Operation) : Type 0 where
-  pub only : (x y n : ℕ) → y % w ≡ n % w → alu w op x y ≡ alu w op x n
-  pub from : (n k : ℕ) → k < w → From w (λ x. alu w op x n) k
-
-pub lsh_counts : (w : ℕ) → Counts w Lsh
-unfolding alu
-lsh_counts w = record { only = λ x y n i. ap (λ (m : ℕ). cut w x * 2 ^ m % 2 ^ w) i; from = lsh_from w }
-
-pub rsh_counts : (w : ℕ) → Counts w Rsh
-unfolding alu
-rsh_counts w = record { only = λ x y n i. ap (λ (m : ℕ). cut w x / 2 ^ m) i; from = rsh_from w }
-
-pub arsh_counts : (w : ℕ) → Counts w Arsh
-unfolding alu
-arsh_counts w = record { only = λ x y n i. ap (λ (m : ℕ). shift_signed w (cut w x) m) i; from = arsh_from w }
+use Rattle.known_bits.proofs.Laws.{best_same_set}
+use Rattle.known_bits.proofs.Methods.{Image1, Image}
+use Rattle.known_bits.proofs.EachCount.{by_count_best}
+pub use Rattle.known_bits.proofs.EachCount.{Counts, lsh_counts, rsh_counts, arsh_counts}
 
 -- ---- a number m for which m & (m - 1) is 0 has one bit at most
 module _ (m : ℕ) (z : bit_and m (m - 1) ≡ 0) (j k : ℕ) (l : j < k) (hj : bit j m ≡ 1) where
@@ -202,22 +100,18 @@ module _ (w : ℕ) (ww : Width w) (b : Bits) (gb : Well w b) where
 
 -- ---- the best pairs
 module _ (w : ℕ) (ww : Width w) (op : Operation) (h : Counts w op) (a b : Bits) (ga : Well w a) (gb : Well w b) where
-  by_count_best : (n : ℕ) → Best w (Image1 w (λ x. alu w op x n) a) (shifted_by w op a n)
-  unfolding shifted_by
-  by_count_best n = selected w a ga (λ x. alu w op x n) (λ x l. result_below w op x n) (h.from n)
-
   pub known_count_best : b.mask % w ≡ 0 → Best w (Image w (alu w op) a b) (shifted_by w op a b.value)
   known_count_best z =
       best_same_set w (Image1 w (λ x. alu w op x b.value) a) (Image w (alu w op) a b) (shifted_by w op a b.value)
       (λ y i. (i.0, b.value, i.1, mem_least w b gb, i.2))
       (λ y i. (i.0, i.2, i.4 ∙ h.only i.0 i.1 b.value (known_count w ww b gb z i.1 i.3)))
-      (by_count_best b.value)
+      (by_count_best w ww op h a ga b.value)
 
   pub one_of_two_counts_best : ¬ (b.mask % w ≡ 0) → single (b.mask % w) ≡ true
       → Best w (Image w (alu w op) a b) (joined (shifted_by w op a b.value) (shifted_by w op a (top b)))
   one_of_two_counts_best some one =
       best_same_set w (λ z. S z ⊎ T z) (Image w (alu w op) a b) _ there (λ z i. back z i (one_of_two w ww b gb some one i.1 i.3))
-      (joined_best_of_both_sets w _ _ S T (by_count_best b.value) (by_count_best (top b)))
+      (joined_best_of_both_sets w _ _ S T (by_count_best w ww op h a ga b.value) (by_count_best w ww op h a ga (top b)))
     where
       S : ℕ → Type 0
       S z = Image1 w (λ x. alu w op x b.value) a z

@@ -1,9 +1,9 @@
--- The best pair for the cut to v bits, and operations that cut their operands: what is best, or sound, at w bits for operands that are
--- cut is so at 64 bits for the instruction, which cuts them itself.
+-- Operations that cut their operands: what is best, or sound, at w bits for operands that are cut is so at 64 bits for the instruction,
+-- which cuts them itself.
 use mathlib.Core.Path.{◌≡◌, refl, sym, ap, ap₂, ◌∙◌, subst}
 use mathlib.Core.Logic.{◌⊎◌, inl, inr}
 use Prim.Native.Nat.{ℕ, ◌+◌, ◌-◌, ◌*◌, ◌/◌, ◌%◌, ◌^◌, ◌≤◌, ◌<◌}
-use native.Mathlib.Nat.{div-lt_iff_lt-mul, le_trans, mod-le, lt_of_le_of_lt}
+use native.Mathlib.Nat.{div-lt_iff_lt-mul, le_trans}
 use native.Mathlib.Decide.{dec_lt}
 use native.Mathlib.Omega.{arith}
 use lib.Arith.{digits_lt}
@@ -18,7 +18,8 @@ use Rattle.known_bits.specs.Formula.{low}
 use Rattle.known_bits.specs.KnownBits.{Well, Mem, Sound, Best, Results}
 use Rattle.known_bits.proofs.Tight.{mem_least}
 use Rattle.known_bits.proofs.Laws.{best_same_set, high_bit, well_wider, mem_wider, mem_narrower}
-use Rattle.known_bits.proofs.Methods.{Image1, Image, From, selected}
+use Rattle.known_bits.proofs.Methods.{Image}
+pub use Rattle.known_bits.proofs.CutPairs.{cut_bit, low_same, low_best}
 
 -- a width of the machine: a power of two, so that a count is as many low bits
 pub record Width (w : ℕ) : Type 0 where
@@ -32,29 +33,7 @@ pub width : (w : ℕ) → (w ≡ 64) ⊎ (w ≡ 32) → Width w
 width w (inl e) = record { places = 6; power = e; enough = omega arith; some = omega arith; small = omega arith }
 width w (inr e) = record { places = 5; power = e; enough = omega arith; some = omega arith; small = omega arith }
 
-pub cut_bit : (v k x : ℕ) → k < v → bit k (cut v x) ≡ bit k x
-unfolding cut
-cut_bit v k x l = bit_mod v k x l
-
-cut_at_most : (v x : ℕ) → cut v x ≤ x
-unfolding cut
-cut_at_most v x = mod-le x (2 ^ v)
-
 -- ---- the cut
-
--- nothing is cut off a pair of w bits
-pub low_same : (w : ℕ) (p : Bits) → p.value < 2 ^ w → p.mask < 2 ^ w → p ≡ low w p
-unfolding low
-low_same w p hv hm = λ i. record { value = sym (cut_small w hv) i; mask = sym (cut_small w hm) i }
-
-pub low_best : (v w : ℕ) (a : Bits) → Well w a → Best w (Image1 w (cut v) a) (low v a)
-unfolding low
-low_best v w a ga = selected w a ga (cut v) (λ x h. lt_of_le_of_lt (cut_at_most v x) h) (λ k l. go k l (dec_lt k v))
-  where
-    go : (k : ℕ) → k < w → Dec (k < v) → From w (cut v) k
-    go k i (yes l) = inl (k, i, λ x hx. cut_bit v k x l)
-    go k i (no n) = inr (λ x hx. high_bit v k (cut v x) n (cut_below v x))
-
 module _ (v w : ℕ) (h : v ≤ w) (a : Bits) (ga : Well w a) where
   pub low_well : Well v (low v a)
   unfolding low

@@ -28,7 +28,8 @@ use Rattle.known_bits.proofs.CountLaws.{lsh_unknown_sound, rsh_unknown_sound, ar
 use Rattle.known_bits.proofs.Exact.{exact_well, best_is_exact}
 use Rattle.known_bits.proofs.Laws.{best_sound}
 use Rattle.known_bits.proofs.Methods.{Image}
-use Rattle.known_bits.proofs.Operations.{add_best, sub_best, neg_best, and_best, or_best, xor_best, mov_best}
+use Rattle.known_bits.proofs.Negation.{neg_best}
+use Rattle.known_bits.proofs.Operations.{add_best, sub_best, and_best, or_best, xor_best, mov_best}
 use Rattle.known_bits.proofs.ProductLaws.{exact_product_is, product_sound}
 use Rattle.known_bits.proofs.QuotientLaws.{div_at_64, mod_at_64, quotient_sound, rest_sound}
 

@@ -5,6 +5,8 @@ pub mod Class4
 pub mod Computing
 pub mod CountLaws
 pub mod Covering
+pub mod CutPairs
+pub mod EachCount
 pub mod Exact
 pub mod Inside
 pub mod InsideComputing
@@ -12,10 +14,13 @@ pub mod InsideProducts
 pub mod InsideQuotients
 pub mod InsideShifts
 pub mod Joined
+pub mod JoinedSound
 pub mod Laws
 pub mod LearnLaws
+pub mod LowDigits
 pub mod Meet
 pub mod Methods
+pub mod Negation
 pub mod Operations
 pub mod PlainProducts
 pub mod ProductLaws

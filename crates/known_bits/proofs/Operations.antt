@@ -1,21 +1,19 @@
--- The best pair for ADD, SUB, NEG, AND, OR, XOR and MOV at w bits, for operands of w bits.
+-- The best pair for ADD, SUB, AND, OR, XOR and MOV at w bits, for operands of w bits.
 use mathlib.Core.Path.{◌≡◌, refl, sym, ap, ◌∙◌, subst}
 use Prim.Native.Nat.{ℕ, ◌+◌, ◌%◌, ◌^◌, ◌≤◌, ◌<◌}
 use native.Mathlib.Omega.{arith}
-use lib.Pow.{pow_pos}
 use lib.Bits.{bit_or, xor_self, or_zero_l}
 use Rattle.word.specs.Word.{bit, alu}
-use Rattle.word.specs.declared.Operation.TheVariants.{Add, Sub, Neg, And, Or, Xor, Mov}
+use Rattle.word.specs.declared.Operation.TheVariants.{Add, Sub, And, Or, Xor, Mov}
 use Rattle.word.proofs.Bit.{bit_mod, bit_add, carry, carry_lt, carry_low, carry_mono, bit_sub, borrow, borrow_lt, borrow_low, borrow_mono, low_le}
 use Rattle.word.proofs.Cut.{cut_small}
 use Rattle.word.proofs.Pinned.{add_is_the_sum, and_bit_by_bit, or_bit_by_bit, xor_bit_by_bit, result_below}
 use Rattle.known_bits.specs.declared.Bits.{Bits}
 use Rattle.known_bits.specs.Formula.{sum, difference, digits, parity}
 use Rattle.known_bits.specs.KnownBits.{Well, Mem, Best}
-use Rattle.known_bits.specs.Pair.{packed, top, exactly}
+use Rattle.known_bits.specs.Pair.{packed, top}
 use Rattle.known_bits.proofs.Base.{same_numbers_is_best}
 use Rattle.known_bits.proofs.Tight.{mem_least, mem_top, mem_low, mem_high}
-use Rattle.known_bits.proofs.Laws.{best_same_set, exact_mem}
 use Rattle.known_bits.proofs.Methods.{Image, monotone, carried}
 
 -- the low bits of the numbers of a pair lie between those of its ends
@@ -77,32 +75,12 @@ module _ (w : ℕ) (a b : Bits) (ga : Well w a) (gb : Well w b) where
       monotone w a b ga gb (alu w Or) (result_below w Or)
       (λ k x y x' y' l hx hy. omega (arith, or_bit_by_bit w x y k l, or_bit_by_bit w x' y' k l))
 
--- ---- NEG is SUB from 0, and MOV gives its source, whatever the other operand is
-zero_well : (w : ℕ) → Well w (exactly 0)
-zero_well w = record { value_fits = pow_pos w; mask_fits = pow_pos w; apart = refl }
-
-neg_is_sub : (w x y : ℕ) → alu w Neg x y ≡ alu w Sub 0 x
-unfolding alu
-neg_is_sub w x y = rw (cut_small w (pow_pos w)) (ap (λ (n : ℕ). n % 2 ^ w) (omega arith))
-
+-- ---- MOV gives its source, whatever the other operand is
 mov_is : (w x y : ℕ) → y < 2 ^ w → alu w Mov x y ≡ y
 unfolding alu
 mov_is w x y h = cut_small w h
 
 module _ (w : ℕ) (a b : Bits) (ga : Well w a) (gb : Well w b) where
-  pub neg_best : Best w (Image w (alu w Neg) a b) (difference w (exactly 0) a)
-  neg_best =
-      best_same_set w (Image w (alu w Sub) (exactly 0) a) (Image w (alu w Neg) a b) (difference w (exactly 0) a)
-      (λ z i. (
-        i.1,
-        b.value,
-        i.3,
-        mem_least w b gb,
-        i.4 ∙ ap (λ (n : ℕ). alu w Sub n i.1) ((exact_mem w (exactly 0) (zero_well w) refl i.0).0 i.2) ∙ sym (neg_is_sub w i.1 b.value),
-      ))
-      (λ z i. (0, i.0, mem_least w (exactly 0) (zero_well w), i.2, i.4 ∙ neg_is_sub w i.0 i.1))
-      (sub_best w (exactly 0) a (zero_well w) ga)
-
   pub mov_best : Best w (Image w (alu w Mov) a b) b
   mov_best =
       same_numbers_is_best w (Image w (alu w Mov) a b) b gb
