@@ -1,4 +1,4 @@
--- words go a way where they stand in its relation
+-- Words go a way where they stand in its relation.
 use mathlib.Core.Path.{◌≡◌}
 use mathlib.Core.Bool.{Bool}
 use mathlib.Core.Logic.{◌↔◌}
@@ -6,7 +6,6 @@ use Prim.Native.Nat.{ℕ, ◌^◌, ◌<◌}
 use Rattle.word.specs.Word.{compare}
 use Rattle.word.specs.declared.Comparison.{Comparison}
 use Rattle.word.proofs.Cut.{cut_64}
-pub use Rattle.number.specs.Demanded.{Unsigned, eq, ne, gt, ge, lt, le}
 use Rattle.number.proofs.Relations.{Holds, relation, low_words_go}
 
 pub goes_if_it_holds : (c : Comparison) (way : Bool) (x y : ℕ) → x < 2 ^ 64 → y < 2 ^ 64 → (compare 64 c x y ≡ way) ↔ Holds (relation c way) x y
