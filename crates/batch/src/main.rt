@@ -1,8 +1,12 @@
 // The batch protocol: a request a line on standard input, an answer a line on standard output.
-// Assumes that input ends within 2^64 reads; a read or a write that fails counts as the end of what it moves.
-ghost use Rattle.std.specs.Prelude.{◌+◌, ◌≤◌, length};
+// Assumes that input ends within 2^64 reads. The first read or write that fails ends the program with its error.
+#![tactic(auto)]
+
+ghost use Rattle.std.specs.Prelude.{◌+◌, ◌≤◌, length, IfOk};
 
 use console::answer::{LONGEST, respond};
+use std::io;
+use std::io::Read;
 use text::scan::find;
 use waiting::MOST_WORDS;
 
@@ -21,13 +25,11 @@ struct Held {
 }
 
 // Reads once behind `end`, and answers how many bytes came.
-fn refill(window: &mut [u8], end: usize) -> usize
+fn refill<I: Read>(input: &mut I, window: &mut [u8], end: usize) -> io::Result<usize>
     requires { end ≤ length window.old }
-    ensures { end + result ≤ length window.old }
+    ensures { IfOk result (λ n. end + n ≤ length window.old) }
 {
-    let room = &mut window[end..];
-    let got = libc::read(0, room);
-    io::count(got, room)
+    input.read(&mut window[end..])
 }
 
 // Moves the bytes from `at` up to `end` to the front.
@@ -44,26 +46,27 @@ fn slide(window: &mut [u8], at: usize, end: usize)
     }
 }
 
-fn flush(out: &[u8], n: usize)
+fn flush(rt: &impl Print, out: &[u8], n: usize) -> io::Result<()>
     requires { n ≤ length out.now }
 {
-    io::write_all(1, &out[0..n]);
+    rt.write_all(&out[0..n])
 }
 
 // Writes what waits, where less than an answer's room is left, and answers how many bytes wait now.
-fn spare(out: &[u8], n: usize) -> usize
+fn spare(rt: &impl Print, out: &[u8], n: usize) -> io::Result<usize>
     requires { n ≤ length out.now }
-    ensures { result ≤ length out.now }
+    ensures { IfOk result (λ k. k ≤ length out.now) }
 {
     if out.len() - n < 64 {
-        flush(out, n);
-        return 0;
+        flush(rt, out, n)?;
+        return Ok(0);
     }
-    n
+    Ok(n)
 }
 
 // Answers the whole lines from `at` up to `end`, and answers where the first line starts that is not whole.
 fn answer_lines(
+    rt: &impl Print,
     window: &[u8],
     at: usize,
     end: usize,
@@ -72,24 +75,24 @@ fn answer_lines(
     stack: &mut [u8],
     scratch: &mut [u64],
     out: &mut [u8],
-) -> usize
+) -> io::Result<usize>
     requires { (at ≤ end) × (end ≤ length window.now) }
-    ensures { (at ≤ result) × (result ≤ end) }
+    ensures { IfOk result (λ k. (at ≤ k) × (k ≤ end)) }
 {
     let mut from = at;
     let mut o = 0;
     while from < end {
         let stop = find(&window[0..end], from, b'\n');
         if stop >= end {
-            flush(out, o);
-            return from;
+            flush(rt, out, o)?;
+            return Ok(from);
         }
         o = respond(&window[from..stop], program, rec, stack, scratch, out, o);
-        o = spare(out, o);
+        o = spare(rt, out, o)?;
         from = stop + 1;
     }
-    flush(out, o);
-    from
+    flush(rt, out, o)?;
+    Ok(from)
 }
 
 // A line that was too long has its answer already: what is left of it is passed over.
@@ -117,18 +120,19 @@ fn past_long(window: &[u8], end: usize, long: bool) -> Front
 }
 
 // A line that is too long before its end is seen is answered here, and nothing of it is kept.
-fn kept(held: usize) -> usize
-    ensures { result ≤ held }
+fn kept(rt: &impl Print, held: usize) -> io::Result<usize>
+    ensures { IfOk result (λ k. k ≤ held) }
 {
     if held > LONGEST {
-        io::write_all(1, b"error\n");
-        return 0;
+        rt.write_all(b"error\n")?;
+        return Ok(0);
     }
-    held
+    Ok(held)
 }
 
 // The last line, where it has no line end.
 fn last(
+    rt: &impl Print,
     window: &[u8],
     held: usize,
     program: &mut [u8],
@@ -136,17 +140,19 @@ fn last(
     stack: &mut [u8],
     scratch: &mut [u64],
     out: &mut [u8],
-)
+) -> io::Result<()>
     requires { held ≤ length window.now }
 {
     if held > 0 {
         let o = respond(&window[0..held], program, rec, stack, scratch, out, 0);
-        flush(out, o);
+        flush(rt, out, o)?;
     }
+    Ok(())
 }
 
 // Answers the whole lines up to `end`, and moves what is left to the front.
 fn advance(
+    rt: &impl Print,
     window: &mut [u8],
     end: usize,
     long: bool,
@@ -155,47 +161,59 @@ fn advance(
     stack: &mut [u8],
     scratch: &mut [u64],
     out: &mut [u8],
-) -> Held
+) -> io::Result<Held>
     requires { end ≤ length window.old }
-    ensures { result.count ≤ end }
+    ensures { IfOk result (λ h. h.count ≤ end) }
 {
     let front = past_long(window, end, long);
     let from = front.from;
-    let rest = answer_lines(window, from, end, program, rec, stack, scratch, out);
+    let rest = answer_lines(rt, window, from, end, program, rec, stack, scratch, out)?;
     slide(window, rest, end);
     let long = front.long | (end - rest > LONGEST);
-    let count = kept(end - rest);
-    Held { count, long }
+    let count = kept(rt, end - rest)?;
+    Ok(Held { count, long })
 }
 
 // Reads and answers until the input ends.
 fn serve(
+    rt: &(impl Input + Print),
     window: &mut [u8],
     program: &mut [u8],
     rec: &mut [u8],
     stack: &mut [u8],
     scratch: &mut [u64],
     out: &mut [u8],
-) {
+) -> io::Result<()> {
+    let mut input = rt.reader();
     let mut turns = u64::MAX;
     let mut held = 0;
     let mut long = false;
     while turns > 0 {
         turns -= 1;
-        let n = refill(window, held);
+        let n = refill(&mut input, window, held)?;
         if n == 0 {
-            last(window, held, program, rec, stack, scratch, out);
-            return;
+            return last(rt, window, held, program, rec, stack, scratch, out);
         }
-        let left = advance(window, held + n, long, program, rec, stack, scratch, out);
+        let left = advance(
+            rt,
+            window,
+            held + n,
+            long,
+            program,
+            rec,
+            stack,
+            scratch,
+            out,
+        )?;
         held = left.count;
         long = left.long;
     }
+    Ok(())
 }
 
 // The window takes in the longest line, and a good part of the next. A line's hex has half as many bytes as the line has characters.
 // Scratch memory is enough for every program that passes the tests on form.
-fn main() {
+fn main(rt: HostRuntime) -> io::Result<()> {
     let mut window = [0u8; 131072];
     let mut program = [0u8; 35000];
     let mut rec = [0u8; 35000];
@@ -203,11 +221,12 @@ fn main() {
     let mut scratch = [0u64; MOST_WORDS];
     let mut out = [0u8; 65536];
     serve(
+        &rt,
         &mut window,
         &mut program,
         &mut rec,
         &mut stack,
         &mut scratch,
         &mut out,
-    );
+    )
 }

@@ -6,7 +6,9 @@ use explain::joins::note_ways;
 use explain::line::explain_line;
 use listing::line::show_line;
 use reports::answer::conclude;
+use std::io;
 use terminal::ending::{fail, say, status};
+use terminal::host::Terminal;
 use verifier::verify::annotate;
 
 fn lines_of(program: &[u8]) -> usize
@@ -18,26 +20,27 @@ fn lines_of(program: &[u8]) -> usize
     program.len() / 8 + 1
 }
 
-fn show_at(program: &[u8], i: usize, out: &mut [u8]) -> bool {
+fn show_at(rt: &impl Terminal, program: &[u8], i: usize, out: &mut [u8]) -> io::Result<()> {
     let n = show_line(program, i, out);
-    say(1, out, n)
+    say(rt, out, n)
 }
 
 // The listing alone.
-pub fn show(program: &[u8], out: &mut [u8]) {
+pub fn show(rt: &impl Terminal, program: &[u8], out: &mut [u8]) {
     let count = lines_of(program);
     let mut i = 0;
     while i < count {
-        if !show_at(program, i, out) {
-            fail();
+        if let Err(error) = show_at(rt, program, i, out) {
+            fail(rt, error);
             return;
         }
         i += 1;
     }
-    status(b'0');
+    status(rt, b'0');
 }
 
 fn explain_at(
+    rt: &impl Terminal,
     program: &[u8],
     rlen: u64,
     scratch: &[u64],
@@ -45,13 +48,14 @@ fn explain_at(
     finding: Finding,
     i: usize,
     out: &mut [u8],
-) -> bool {
+) -> io::Result<()> {
     let n = explain_line(program, rlen, scratch, ways, finding, i, out);
-    say(1, out, n)
+    say(rt, out, n)
 }
 
 // The listing with what is known at each index. What could not be written is said when the answer is.
 fn explain_lines(
+    rt: &impl Terminal,
     program: &[u8],
     rlen: u64,
     scratch: &[u64],
@@ -62,31 +66,45 @@ fn explain_lines(
     let count = lines_of(program);
     let mut i = 0;
     while i < count {
-        if !explain_at(program, rlen, scratch, ways, finding, i, out) {
+        if explain_at(rt, program, rlen, scratch, ways, finding, i, out).is_err() {
             return;
         }
         i += 1;
     }
 }
 
-fn explain_found(program: &[u8], rlen: u64, scratch: &[u64], finding: Finding, out: &mut [u8]) {
+fn explain_found(
+    rt: &impl Terminal,
+    program: &[u8],
+    rlen: u64,
+    scratch: &[u64],
+    finding: Finding,
+    out: &mut [u8],
+) {
     let mut ways = [0u8; 4096];
     note_ways(program, rlen, scratch, &mut ways);
-    explain_lines(program, rlen, scratch, &ways, finding, out)
+    explain_lines(rt, program, rlen, scratch, &ways, finding, out)
 }
 
-fn explain_answer(program: &[u8], rlen: u64, scratch: &[u64], answer: Answer, out: &mut [u8]) {
+fn explain_answer(
+    rt: &impl Terminal,
+    program: &[u8],
+    rlen: u64,
+    scratch: &[u64],
+    answer: Answer,
+    out: &mut [u8],
+) {
     match answer {
         Answer::Judgement(judged) => {
             let finding = judged.finding;
-            explain_found(program, rlen, scratch, finding, out)
+            explain_found(rt, program, rlen, scratch, finding, out)
         }
         Answer::ScratchTooSmall { words: _ } => {}
     }
 }
 
-pub fn explain(program: &[u8], rlen: u64, scratch: &mut [u64], out: &mut [u8]) {
+pub fn explain(rt: &impl Terminal, program: &[u8], rlen: u64, scratch: &mut [u64], out: &mut [u8]) {
     let answer = annotate(program, rlen, scratch);
-    explain_answer(program, rlen, scratch, answer, out);
-    conclude(answer, program, out);
+    explain_answer(rt, program, rlen, scratch, answer, out);
+    conclude(rt, answer, program, out);
 }

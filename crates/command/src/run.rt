@@ -8,11 +8,21 @@ use machine::outcome::Outcome;
 use orders::Order;
 use terminal::ending::{finish, say, status, stop};
 use terminal::file::read_file;
+use terminal::host::Terminal;
 use tracing::outcome::{outcome_line, refusal_line, status_of_run};
 use tracing::trace_step;
 
 // The steps of a run that is not refused, a line each.
-fn trace(program: &[u8], rec: &[u8], p: u64, s: u64, budget: u64, stack: &mut [u8], out: &mut [u8])
+fn trace(
+    rt: &impl Terminal,
+    program: &[u8],
+    rec: &[u8],
+    p: u64,
+    s: u64,
+    budget: u64,
+    stack: &mut [u8],
+    out: &mut [u8],
+)
     requires { s ≤ 140737488355328 }
 {
     let mut regs = [0u64; 16];
@@ -25,7 +35,7 @@ fn trace(program: &[u8], rec: &[u8], p: u64, s: u64, budget: u64, stack: &mut [u
         let traced = trace_step(program, rec, p, s, pc, live, &mut regs, stack, out);
         let bytes = traced.bytes;
         let next = traced.next;
-        if !say(1, out, bytes) {
+        if say(rt, out, bytes).is_err() {
             return;
         }
         match next {
@@ -57,6 +67,7 @@ fn clear(stack: &mut [u8]) {
 
 // The run once more, from a cleared stack, with its steps, where they are wanted.
 fn retrace(
+    rt: &impl Terminal,
     wanted: bool,
     program: &[u8],
     rec: &[u8],
@@ -73,26 +84,34 @@ fn retrace(
         return;
     }
     clear(stack);
-    trace(program, rec, p, s, budget, stack, out);
+    trace(rt, program, rec, p, s, budget, stack, out);
 }
 
-fn run_on(program: &[u8], rec: &[u8], order: Order, stack: &mut [u8], out: &mut [u8]) {
+fn run_on(
+    rt: &impl Terminal,
+    program: &[u8],
+    rec: &[u8],
+    order: Order,
+    stack: &mut [u8],
+    out: &mut [u8],
+) {
     let p = order.rec_at;
     let s = order.stack_at;
     let budget = order.budget;
     let outcome = interpret(program, rec, p, s, stack, budget);
     if let Outcome::Refused = outcome {
         let n = refusal_line(program.len(), rec.len(), p, s, out);
-        stop(out, n);
+        stop(rt, out, n);
         return;
     }
-    retrace(order.trace, program, rec, p, s, budget, stack, out);
+    retrace(rt, order.trace, program, rec, p, s, budget, stack, out);
     let n = outcome_line(outcome, out);
-    finish(out, n, status_of_run(outcome));
+    finish(rt, out, n, status_of_run(outcome));
 }
 
 // The record's bytes, of which one more is read than a record may have.
 pub fn run(
+    rt: &impl Terminal,
     args: &[u8],
     program: &[u8],
     order: Order,
@@ -105,11 +124,11 @@ pub fn run(
     let span = order.rec_file;
     let start = span.start;
     let end = span.end;
-    let input = read_file(&args[start..end], rec, out);
+    let input = read_file(rt, &args[start..end], rec, out);
     let n = input.count;
     if !input.read {
-        status(b'2');
+        status(rt, b'2');
         return;
     }
-    run_on(program, &rec[0..n], order, stack, out);
+    run_on(rt, program, &rec[0..n], order, stack, out);
 }

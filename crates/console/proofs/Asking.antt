@@ -5,9 +5,8 @@ use mathlib.Core.Path.{◌≡◌, refl, sym, ap, ◌∙◌}
 use Prim.Native.Nat.{ℕ, ◌^◌, ◌≤◌, ◌<◌}
 use lib.Bits.{bit_and}
 use lib.Dec.{ltb, eqb}
-use lib.ListN.{length, take, drop}
+use lib.ListN.{length, drop}
 use borrow.Author.Tests.{ltb-true, eqb-true, eq-eqb, ne_eqb}
-use Rattle.known_bits.specs.declared.Bits.{Bits}
 use Rattle.known_bits.specs.KnownBits.{Well}
 use Rattle.text.specs.Number.{digits, value, number_from, number}
 use Rattle.text.specs.Pair.{joined, pair}
@@ -16,10 +15,8 @@ use Rattle.text.specs.declared.number.Number.{Number}
 use Rattle.text.specs.declared.number.Number.TheVariants as a-number
 use Rattle.text.specs.declared.pair.Pair.{Pair}
 use Rattle.text.specs.declared.pair.Pair.TheVariants as a_pair
-use Rattle.console.specs.declared.bits.Task.{Task}
 use Rattle.console.specs.declared.bits.Tasks.{Tasks}
 use Rattle.console.specs.declared.bits.Tasks.TheVariants as a-task
-use Rattle.console.specs.declared.bits.Width.{Width}
 use Rattle.console.specs.declared.bits.Widths.{Widths}
 use Rattle.console.specs.declared.bits.Widths.TheVariants as a-width
 use Rattle.console.specs.declared.bits.Known.{Known}

@@ -10,7 +10,6 @@ use Rattle.text.specs.Buffer.{chars}
 use Rattle.text.specs.Scan.{other, equal}
 use Rattle.text.specs.Table.{before, behind, entry_of, position}
 use Rattle.console.specs.declared.bits.Task.TheVariants.{Alu, Join, Cut}
-use Rattle.console.specs.declared.bits.Tasks.{Tasks}
 use Rattle.console.specs.declared.bits.Tasks.TheVariants as a-task
 use Rattle.console.specs.Bits.{later_task, task_named, tasks, task_numbered}
 

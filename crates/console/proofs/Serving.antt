@@ -1,7 +1,6 @@
 -- The pairs that serve a task, by what the operations on pairs promise, and the reply that they make.
-use mathlib.Core.Bool.{true, false}
 use mathlib.Core.List.{List}
-use mathlib.Core.Logic.{◌⊎◌, inl, inr}
+use mathlib.Core.Logic.{inl, inr}
 use mathlib.Core.Path.{◌≡◌, refl, sym, ◌∙◌}
 use Prim.Native.Nat.{ℕ}
 use Rattle.word.proofs.Cut.{cut_64}

@@ -1,5 +1,7 @@
 // What the verifier knows at each index of a program, and why it refuses, as text.
 // All on slices, with no input or output.
+#![tactic(auto)]
+
 mod access;
 mod clause;
 mod effect;

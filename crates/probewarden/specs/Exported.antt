@@ -1,6 +1,6 @@
 -- What the C functions promise: a code and what each lent buffer holds then, by the definitions of the analysis and of the machine; and
 -- what the codes and words of pw_verify mean of the program.
-use Rattle.std.specs.Prelude.{◌≡◌, ◌↔◌, true, cond, List, ℕ, ◌+◌, ◌*◌, ◌/◌, ◌≤◌, ◌<◌, length, get_or, leb}
+use Rattle.std.specs.Prelude.{◌≡◌, ◌↔◌, true, cond, List, ℕ, ◌/◌, ◌≤◌, ◌<◌, length, get_or, leb}
 use Rattle.machine.specs.Machine.{interpreted}
 use Rattle.analysis.specs.declared.Reason.{Reason}
 use Rattle.analysis.specs.declared.Finding.{Finding}

@@ -1,5 +1,7 @@
 // Reasons and faults by their numbers, and both in words: what the C library, the command and the batch program say of them.
 // The words are tables by number, so that one more reason is one more line.
+#![tactic(auto)]
+
 ghost use Rattle.std.specs.Prelude.{◌≡◌, cond, ltb};
 ghost use Rattle.analysis.specs.Judged.{reason_number};
 ghost use Rattle.text.specs.Buffer.{Put};
@@ -12,6 +14,7 @@ use machine::outcome::Cause;
 use text::table::put_entry;
 
 // The number in docs/VERIFIER.md.
+#[tactic(auto, unfolding(analysis::specs::Judged::reason_number))]
 pub fn reason_number(reason: Reason) -> u64
     ensures { result ≡ reason_number reason }
 {

@@ -6,6 +6,7 @@ ghost use Rattle.reports.specs.Line.{refusal_text, finding_text, answer_text, fi
 use analysis::{Answer, Finding, Reason};
 use reasons::{put_sentence, reason_number};
 use terminal::ending::finish;
+use terminal::host::Terminal;
 use text::buffer::{put, put_decimal, put_text};
 
 // A number in decimal, between two texts.
@@ -85,7 +86,7 @@ pub fn status_of(answer: Answer) -> u8
     }
 }
 
-pub fn conclude(answer: Answer, program: &[u8], out: &mut [u8]) {
+pub fn conclude(rt: &impl Terminal, answer: Answer, program: &[u8], out: &mut [u8]) {
     let n = put_answer(answer, (program.len() / 8) as u64, out);
-    finish(out, n, status_of(answer));
+    finish(rt, out, n, status_of(answer));
 }

@@ -3,18 +3,28 @@ ghost use Rattle.std.specs.Prelude.{◌≤◌, length};
 
 use crate::host::Terminal;
 use std::fs::OpenOptions;
-use std::io;
 use std::io::Write;
+use std::os::unix::fs::PermissionsExt;
+use std::{fs, io};
 
-// Where the status is wanted.
-const STATUS: &str = "/dev/fd/3";
+// Descriptor 3, as the system names it.
+const STATUS: &str = "/proc/self/fd/3";
 
-fn write_status(rt: &impl Terminal, d: u8) -> io::Result<()> {
-    let mut file = OpenOptions::new().append(true).open(rt, STATUS)?;
-    file.write_all(&[d])
+// The name has the rights that the descriptor was opened with: one that is only read is left as it is.
+fn is_written(rt: &impl Terminal) -> io::Result<bool> {
+    let rights = fs::symlink_metadata(rt, STATUS)?.permissions();
+    Ok(rights.mode() & 0o200 != 0)
 }
 
-// Writes the status on descriptor 3. Where that is not open, nobody asks for it.
+fn write_status(rt: &impl Terminal, d: u8) -> io::Result<()> {
+    if is_written(rt)? {
+        let mut file = OpenOptions::new().append(true).open(rt, STATUS)?;
+        file.write_all(&[d])?;
+    }
+    Ok(())
+}
+
+// Writes the status on descriptor 3. Where that is not open for writing, nobody asks for it.
 pub fn status(rt: &impl Terminal, d: u8) {
     let _ = write_status(rt, d);
 }
@@ -55,7 +65,7 @@ fn warn_why<R: Terminal>(rt: &R, error: io::Error) -> io::Result<()> {
 }
 
 // Writes a line to standard error: what failed, and why, as the system names it.
-pub fn explain(rt: &impl Terminal, what: &[u8], error: io::Error) {
+pub fn tell_why(rt: &impl Terminal, what: &[u8], error: io::Error) {
     let _ = rt.warn(what);
     let _ = rt.warn(b": ");
     let _ = warn_why(rt, error);
@@ -64,7 +74,7 @@ pub fn explain(rt: &impl Terminal, what: &[u8], error: io::Error) {
 
 // Ends because what was to be said could not be written.
 pub fn fail(rt: &impl Terminal, error: io::Error) {
-    explain(rt, b"probewarden: standard output", error);
+    tell_why(rt, b"probewarden: standard output", error);
     status(rt, b'2');
 }
 

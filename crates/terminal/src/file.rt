@@ -1,7 +1,7 @@
 // The bytes of a file, or of standard input; what is wrong is said on standard error.
 ghost use Rattle.std.specs.Prelude.{◌≡◌, ◌≤◌, length, IfOk};
 
-use crate::ending::{complain, explain};
+use crate::ending::{complain, tell_why};
 use crate::host::Terminal;
 use std::fs::File;
 use std::io;
@@ -30,7 +30,7 @@ fn unread() -> Input
 fn cannot_read(rt: &impl Terminal, path: &[u8], error: io::Error, out: &mut [u8]) {
     let a = write_text(out, 0, b"probewarden: cannot read ");
     let b = write_text(out, a, path);
-    explain(rt, &out[0..b], error);
+    tell_why(rt, &out[0..b], error);
 }
 
 fn too_long(rt: &impl Terminal, path: &[u8], room: usize, out: &mut [u8]) {

@@ -7,3 +7,4 @@ pub mod ending;
 pub mod file;
 pub mod host;
 pub mod program;
+pub mod room;

@@ -6,6 +6,7 @@ ghost use Rattle.orders.specs.Orders.{Placed};
 use crate::ending::{status, stop};
 use crate::file::read_file;
 use crate::host::Terminal;
+use crate::room::zero_bytes;
 use loading::{Loaded, load};
 use orders::Order;
 use text::page::write_text;
@@ -135,13 +136,6 @@ fn fetch(
     find_program(rt, args, &file[0..n], order, bare, program, out)
 }
 
-// N zeros, of which a caller's proof sees the number and not each one.
-fn zeros<const N: usize>() -> [u8; N]
-    ensures { length result ≡ N }
-{
-    [0; N]
-}
-
 // The program's bytes, at the start of `program`. If there is none, that has been said, with the status.
 pub fn fetch_program(
     rt: &impl Terminal,
@@ -153,7 +147,7 @@ pub fn fetch_program(
     requires { Placed (length args.now) order }
     ensures { result.length ≤ length program.old }
 {
-    let mut file = zeros::<LONGEST_FILE>();
-    let mut bare = zeros::<LONGEST_FILE>();
+    let mut file = zero_bytes::<LONGEST_FILE>();
+    let mut bare = zero_bytes::<LONGEST_FILE>();
     fetch(rt, args, order, &mut file, &mut bare, program, out)
 }

@@ -1,4 +1,6 @@
 // A run in lines: what it comes to, and a step, with the instruction and what it changed. The step is the interpreter's own.
+#![tactic(auto)]
+
 ghost use Rattle.std.specs.Prelude.{◌≡◌, ◌≤◌, ◌<◌, ◌^◌, length};
 ghost use Rattle.tracing.specs.Traced.{Steps};
 

@@ -1,6 +1,6 @@
 -- Scratch memory is answered to be too small if and only if the tests with the reasons 1 to 6 are passed and scratch is shorter than the
 -- words that the program needs.
-use mathlib.Core.Path.{◌≡◌, refl, sym, ap, ◌∙◌, subst}
+use mathlib.Core.Path.{◌≡◌, refl, sym, ap, subst}
 use mathlib.Core.Bool.{Bool, true, false, cond, not, ◌&&◌, true≢false, and-eq-true_iff}
 use mathlib.Core.Logic.{◌↔◌}
 use mathlib.Core.List.{List}

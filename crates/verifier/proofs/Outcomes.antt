@@ -16,10 +16,10 @@ use Rattle.word.specs.contracts.Operation as operation
 use Rattle.machine.specs.declared.instruction.Width.{Width}
 use Rattle.machine.specs.declared.instruction.Width.TheVariants.{Long}
 use Rattle.machine.specs.declared.instruction.Operand.{Operand}
+use Rattle.machine.specs.declared.instruction.Size.{Size}
 use Rattle.machine.specs.declared.instruction.Instruction.{Instruction}
 use Rattle.machine.specs.declared.instruction.Instruction.TheVariants as instruction
 use Rattle.machine.specs.declared.instruction.Instruction.TheVariants.{Alu, Jump, Always, Exit, Load, Store, NoInstruction}
-use Rattle.machine.specs.contracts.instruction.Instruction as declared
 use Rattle.number.specs.declared.Number.{Number}
 use Rattle.number.specs.Sharpen.{exact, loaded}
 use Rattle.number.specs.Computed.{computed, fits}
@@ -70,33 +70,32 @@ no_sum op = no_such_key op Add all_but_add_and_sub (tt {0})
 pub no_difference : (op : Operation) → Other all_but_add_and_sub op → op ≡ Sub → ⊥
 no_difference op = no_such_key op Sub all_but_add_and_sub (tt {0})
 
-abbrev all_but_jumps : List ℕ
-all_but_jumps = 0 ∷ 1 ∷ 4 ∷ 5 ∷ 6 ∷ 7 ∷ []
-
-abbrev jumps_and_nothing : List ℕ
-jumps_and_nothing = 2 ∷ 3 ∷ 7 ∷ []
-
-pub no_jump : (n : ℕ) (ins : Instruction) → OneOf all_but_jumps (tag_of declared.the_type ins) → without_jumps ins ≡ shortened n ins
+pub no_jump : (n : ℕ) (ins : Instruction)
+    → ((w : Width) (c : Comparison) (d : ℕ) (s : Operand) (off : ℕ) → ins ≡ Jump w c d s off → ⊥) → ((off : ℕ) → ins ≡ Always off → ⊥)
+    → without_jumps ins ≡ shortened n ins
 unfolding without_jumps shortened
-no_jump n (Alu w op d s) h = refl
-no_jump n (instruction.Neg w d) h = refl
-no_jump n (Jump w c d s off) h = absurd (miss all_but_jumps 2 (tt {0}) h)
-no_jump n (Always off) h = absurd (miss all_but_jumps 3 (tt {0}) h)
-no_jump n Exit h = refl
-no_jump n (Load z d s off) h = refl
-no_jump n (Store z d off s) h = refl
-no_jump n NoInstruction h = refl
+no_jump n (Alu w op d s) jumps always = refl
+no_jump n (instruction.Neg w d) jumps always = refl
+no_jump n (Jump w c d s off) jumps always = absurd (jumps w c d s off refl)
+no_jump n (Always off) jumps always = absurd (always off refl)
+no_jump n Exit jumps always = refl
+no_jump n (Load z d s off) jumps always = refl
+no_jump n (Store z d off s) jumps always = refl
+no_jump n NoInstruction jumps always = refl
 
-pub jumps_or_nothing : (ins : Instruction) → OneOf jumps_and_nothing (tag_of declared.the_type ins) → without_jumps ins ≡ NoInstruction
+pub jumps_or_nothing : (ins : Instruction)
+    → ((w : Width) (op : Operation) (d : ℕ) (s : Operand) → ins ≡ Alu w op d s → ⊥) → ((w : Width) (d : ℕ) → ins ≡ instruction.Neg w d → ⊥)
+    → (ins ≡ Exit → ⊥) → ((z : Size) (d s off : ℕ) → ins ≡ Load z d s off → ⊥) → ((z : Size) (d off : ℕ) (s : Operand) → ins ≡ Store z d off s → ⊥)
+    → without_jumps ins ≡ NoInstruction
 unfolding without_jumps
-jumps_or_nothing (Alu w op d s) h = absurd (miss jumps_and_nothing 0 (tt {0}) h)
-jumps_or_nothing (instruction.Neg w d) h = absurd (miss jumps_and_nothing 1 (tt {0}) h)
-jumps_or_nothing (Jump w c d s off) h = refl
-jumps_or_nothing (Always off) h = refl
-jumps_or_nothing Exit h = absurd (miss jumps_and_nothing 4 (tt {0}) h)
-jumps_or_nothing (Load z d s off) h = absurd (miss jumps_and_nothing 5 (tt {0}) h)
-jumps_or_nothing (Store z d off s) h = absurd (miss jumps_and_nothing 6 (tt {0}) h)
-jumps_or_nothing NoInstruction h = refl
+jumps_or_nothing (Alu w op d s) alu neg exits load store = absurd (alu w op d s refl)
+jumps_or_nothing (instruction.Neg w d) alu neg exits load store = absurd (neg w d refl)
+jumps_or_nothing (Jump w c d s off) alu neg exits load store = refl
+jumps_or_nothing (Always off) alu neg exits load store = refl
+jumps_or_nothing Exit alu neg exits load store = absurd (exits refl)
+jumps_or_nothing (Load z d s off) alu neg exits load store = absurd (load z d s off refl)
+jumps_or_nothing (Store z d off s) alu neg exits load store = absurd (store z d off s refl)
+jumps_or_nothing NoInstruction alu neg exits load store = refl
 
 -- ---- what becomes of a value that is read
 

@@ -4,22 +4,20 @@ use mathlib.Core.Logic.{◌⊎◌, inl, inr}
 use mathlib.Core.Bool.{Bool, true, false, cond}
 use mathlib.Core.List.{List}
 use mathlib.Core.Option.{none, some}
-use Prim.Native.Nat.{ℕ, ◌+◌, ◌*◌, ◌^◌, ◌<◌}
-use lib.ListN.{get_or}
+use Prim.Native.Nat.{ℕ, ◌+◌, ◌^◌, ◌<◌}
 use Rattle.word.specs.declared.Operation.{Operation}
 use Rattle.word.specs.declared.Operation.TheVariants.{Add, Sub, Mov}
 use Rattle.word.specs.declared.Comparison.{Comparison}
 use Rattle.word.specs.Word.{alu, compare}
 use Rattle.word.proofs.Cut.{cut_64}
 use Rattle.machine.specs.declared.instruction.Width.{Width}
-use Rattle.machine.specs.declared.instruction.Width.TheVariants.{Long, Short}
 use Rattle.machine.specs.declared.instruction.Operand.{Operand}
 use Rattle.machine.specs.declared.instruction.Operand.TheVariants.{Immediate, Register}
 use Rattle.machine.specs.Machine.{bits}
 use Rattle.number.specs.declared.Number.{Number}
 use Rattle.number.specs.declared.Refined.{Refined}
 use Rattle.number.specs.declared.Refined.TheVariants.{Excluded, Possible}
-use Rattle.number.specs.Sharpen.{exact, just}
+use Rattle.number.specs.Sharpen.{exact}
 use Rattle.number.specs.Computed.{computed}
 use Rattle.number.proofs.Computing.{computed_exact}
 use Rattle.analysis.proofs.Told.{told_exact, told_exact_excluded}
@@ -38,7 +36,7 @@ use Rattle.waiting.specs.declared.value.Single.{Single}
 use Rattle.waiting.specs.declared.value.Single.TheVariants as single
 use Rattle.waiting.specs.declared.value.Singles.{Singles}
 use Rattle.waiting.specs.declared.value.Singles.TheVariants as singles
-use Rattle.waiting.specs.State.{of_kind, held_in, held_at, facts_at, IsSingle, AreSingle}
+use Rattle.waiting.specs.State.{held_in, facts_at, IsSingle, AreSingle}
 use Rattle.waiting.specs.Store.{waiting_in}
 use Rattle.verifier.specs.Sending.{Sent}
 use Rattle.waiting.specs.Layout.{state_of}

@@ -1,6 +1,6 @@
 -- The verifier's answer: what is judged, but for scratch memory that is too small, which is answered after the tests with the reasons
 -- 1 to 6 and before that for dead code and any test on values.
-use Rattle.std.specs.Prelude.{◌≡◌, Bool, true, false, cond, not, ◌&&◌, List, ℕ, ◌+◌, ◌*◌, ◌/◌, ◌≤◌, length, ltb}
+use Rattle.std.specs.Prelude.{◌≡◌, Bool, true, false, cond, not, ◌&&◌, List, ℕ, ◌/◌, length, ltb}
 use Rattle.machine.specs.Machine.{bad_program, bad_record}
 use Rattle.analysis.specs.declared.Finding.{Finding}
 use Rattle.analysis.specs.declared.Finding.TheVariants.{Accepted, Refused}

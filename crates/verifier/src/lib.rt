@@ -1,5 +1,7 @@
 // The verifier: the analysis' definition as a routine, in lent memory. On any bytes, any record length and any scratch memory it gives the
 // answer that is defined, and an accepted program is safe.
+#![tactic(auto)]
+
 mod effect;
 mod form;
 pub mod inspect;

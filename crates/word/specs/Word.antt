@@ -1,6 +1,6 @@
 -- Numbers of w bits: what the operations and comparisons of the machine give, signs, bits, and numbers as bytes.
 -- One definition serves every width; the machine has w = 64 and w = 32.
-use Rattle.std.specs.Prelude.{ℕ, zero, suc, ◌+◌, ◌-◌, ◌*◌, ◌/◌, ◌%◌, ◌^◌, Bool, true, false, cond, not, List, ◌==◌, bit_and, bit_or, bit_xor, nat_le, nat_lt, slice_index, slice_set}
+use Rattle.std.specs.Prelude.{ℕ, zero, suc, ◌+◌, ◌-◌, ◌*◌, ◌/◌, ◌%◌, ◌^◌, Bool, cond, not, List, ◌==◌, bit_and, bit_or, bit_xor, nat_le, nat_lt, slice_index, slice_set}
 use Rattle.word.specs.declared.Operation.{Operation}
 use Rattle.word.specs.declared.Operation.TheVariants.{Add, Sub, Mul, Div, Or, And, Lsh, Rsh, Neg, Mod, Xor, Mov, Arsh}
 use Rattle.word.specs.declared.Comparison.{Comparison}

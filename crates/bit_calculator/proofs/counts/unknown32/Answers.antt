@@ -5,8 +5,6 @@ use Rattle.known_bits.specs.Shift.{operation}
 use borrow.Author.Rules.{rules}
 use Rattle.bit_calculator.proofs.counts.unknown32.Goals as goal
 
--- NOTE: 10 old answers, 7 goals
-
 pub returns-in-Left : goal.returns-in-Left
 unfolding operation shifted_unknown low among cut
 returns-in-Left c = search rules

@@ -9,8 +9,6 @@ use Rattle.known_bits.specs.Shift.{operation}
 use Rattle.known_bits.proofs.Class4.{low_same}
 use Rattle.bit_calculator.proofs.counts.unknown64.Goals as goal
 
--- NOTE: 10 old answers, 7 goals
-
 pub returns-in-Left : goal.returns-in-Left
 unfolding operation shifted_unknown low among cut
 returns-in-Left c = rw c.in-Left.is (low_same 64 (among c.left_mask-mask.result) (omega arith) (omega arith) ∙ ap (λ (m : ℕ). low 64 (among m)) c.left_mask-mask.ensures)

@@ -5,8 +5,6 @@ use Rattle.known_bits.specs.Formula.{formula}
 use Rattle.known_bits.specs.Shift.{operation}
 use Rattle.bit_calculator.proofs.operation.formula64.Goals as goal
 
--- NOTE: 38 old answers, 25 goals
-
 pub returns-in-Add : goal.returns-in-Add
 unfolding formula operation
 returns-in-Add c = rw c.in-Add.is c.add64.ensures

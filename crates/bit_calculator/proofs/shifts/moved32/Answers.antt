@@ -3,8 +3,6 @@ use Rattle.known_bits.specs.Shift.{operation}
 use borrow.Author.Rules.{rules}
 use Rattle.bit_calculator.proofs.shifts.moved32.Goals as goal
 
--- NOTE: 9 old answers, 6 goals
-
 pub returns-in-Left : goal.returns-in-Left
 unfolding operation
 returns-in-Left c = search rules

@@ -2,8 +2,6 @@
 use Rattle.number.specs.Compare.{disjoint_by}
 use Rattle.calculator.proofs.compare.disjoin_by.Goals as goal
 
--- NOTE: 10 old answers, 6 goals
-
 pub returns-in-Nothing : goal.returns-in-Nothing
 unfolding disjoint_by
 returns-in-Nothing c = rw c.in-Nothing.is

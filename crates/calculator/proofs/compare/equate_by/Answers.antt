@@ -2,8 +2,6 @@
 use Rattle.number.specs.Compare.{equal_by}
 use Rattle.calculator.proofs.compare.equate_by.Goals as goal
 
--- NOTE: 6 old answers, 4 goals
-
 pub returns-in-Nothing : goal.returns-in-Nothing
 unfolding equal_by
 returns-in-Nothing c = rw c.in-Nothing.is

@@ -2,8 +2,6 @@
 use Rattle.number.specs.Compare.{exchanged}
 use Rattle.calculator.proofs.compare.exchange.Goals as goal
 
--- NOTE: 4 old answers, 2 goals
-
 pub returns-in-Excluded : goal.returns-in-Excluded
 unfolding exchanged
 returns-in-Excluded c = rw c.in-Excluded.is

@@ -2,8 +2,6 @@
 use Rattle.number.specs.Compare.{firsts}
 use Rattle.calculator.proofs.compare.first_of_each.Goals as goal
 
--- NOTE: 7 old answers, 3 goals
-
 pub returns-in-Excluded : goal.returns-in-Excluded
 unfolding firsts
 returns-in-Excluded c = rw c.in-Excluded.is

@@ -2,8 +2,6 @@
 use Rattle.number.specs.Compare.{not_taken}
 use Rattle.calculator.proofs.compare.not_taken.Goals as goal
 
--- NOTE: 33 old answers, 22 goals
-
 pub returns-in-Eq : goal.returns-in-Eq
 unfolding not_taken
 returns-in-Eq c = rw c.in-Eq.is c.separate.ensures

@@ -2,8 +2,6 @@
 use Rattle.number.specs.Compare.{taken}
 use Rattle.calculator.proofs.compare.taken.Goals as goal
 
--- NOTE: 33 old answers, 22 goals
-
 pub returns-in-Eq : goal.returns-in-Eq
 unfolding taken
 returns-in-Eq c = rw c.in-Eq.is c.equate.ensures

@@ -3,8 +3,6 @@ use mathlib.Core.Path.{ap, ap₂, ◌∙◌}
 use Rattle.number.specs.Compare.{equal, firsts, turned_back}
 use Rattle.calculator.proofs.compare.turn_back.Goals as goal
 
--- NOTE: 9 old answers, 7 goals
-
 pub returns-in-Excluded : goal.returns-in-Excluded
 unfolding turned_back
 returns-in-Excluded c = rw c.in-Excluded.is

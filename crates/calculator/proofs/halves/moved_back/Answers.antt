@@ -4,8 +4,6 @@ use Rattle.number.specs.Compare.{firsts}
 use Rattle.number.specs.Halves.{moved_back}
 use Rattle.calculator.proofs.halves.moved_back.Goals as goal
 
--- NOTE: 7 old answers, 5 goals
-
 pub returns-in-Excluded : goal.returns-in-Excluded
 unfolding moved_back
 returns-in-Excluded c = rw c.in-Excluded.is

@@ -2,8 +2,6 @@
 use Rattle.number.specs.Halves.{signed}
 use Rattle.calculator.proofs.halves.signed.Goals as goal
 
--- NOTE: 22 old answers, 11 goals
-
 pub returns-in-Eq : goal.returns-in-Eq
 unfolding signed
 returns-in-Eq c = rw c.in-Eq.is

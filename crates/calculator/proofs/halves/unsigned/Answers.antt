@@ -2,8 +2,6 @@
 use Rattle.number.specs.Halves.{unsigned}
 use Rattle.calculator.proofs.halves.unsigned.Goals as goal
 
--- NOTE: 22 old answers, 11 goals
-
 pub returns-in-Eq : goal.returns-in-Eq
 unfolding unsigned
 returns-in-Eq c = rw c.in-Eq.is

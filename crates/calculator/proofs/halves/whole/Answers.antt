@@ -4,8 +4,6 @@ use Rattle.number.specs.Compare.{settled}
 use Rattle.number.specs.Halves.{whole}
 use Rattle.calculator.proofs.halves.whole.Goals as goal
 
--- NOTE: 7 old answers, 5 goals
-
 pub returns-in-Excluded : goal.returns-in-Excluded
 unfolding whole
 returns-in-Excluded c = rw c.in-Excluded.is

@@ -2,8 +2,6 @@
 use Rattle.number.specs.Computed.{second}
 use Rattle.calculator.proofs.operation.shifts.Goals as goal
 
--- NOTE: 26 old answers, 13 goals
-
 pub returns-in-Add : goal.returns-in-Add
 unfolding second
 returns-in-Add c = λ w b. rw c.in-Add.is

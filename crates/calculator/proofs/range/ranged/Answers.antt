@@ -2,8 +2,6 @@
 use Rattle.number.specs.Ranges.{ranged}
 use Rattle.calculator.proofs.range.ranged.Goals as goal
 
--- NOTE: 38 old answers, 25 goals
-
 pub returns-in-Add : goal.returns-in-Add
 unfolding ranged
 returns-in-Add c = rw c.in-Add.is c.sum.ensures

@@ -3,8 +3,6 @@ use Rattle.machine.specs.Machine.{bytes}
 use borrow.Author.Rules.{rules}
 use Rattle.machine.proofs.memory.byte_count.Goals as goal
 
--- NOTE: 8 old answers, 4 goals
-
 pub returns-in-One : goal.returns-in-One
 unfolding bytes
 returns-in-One c = search rules

@@ -3,8 +3,6 @@ use Rattle.word.specs.Word.{write_bytes}
 use borrow.Author.Rules.{rules}
 use Rattle.machine.proofs.memory.put2.Goals as goal
 
--- NOTE: 7 old answers, 6 goals
-
 pub returns : goal.returns
 unfolding write_bytes
 returns c = search rules

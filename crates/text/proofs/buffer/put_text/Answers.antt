@@ -5,7 +5,5 @@ use borrow.Author.Rules.{rules}
 use Rattle.text.proofs.Puts.{put_more}
 use Rattle.text.proofs.buffer.put_text.Goals as goal
 
--- NOTE: 8 old answers, 7 goals
-
 pub loop-i-preserved : goal.loop-i-preserved
 loop-i-preserved c = (omega arith, (search rules, put_more _ _ c.args.s.now _ _ c.loop-i.i _ _ c.loop-i.invariant.1.1 c.put-o.ensures (omega arith)))

@@ -5,8 +5,6 @@ use borrow.Author.Rules.{rules}
 use Rattle.text.proofs.Dumps.{stripping_start, stripping_more, stripping_end}
 use Rattle.text.proofs.dump.strip.Goals as goal
 
--- NOTE: 13 old answers, 12 goals
-
 pub loop-i-init : goal.loop-i-init
 loop-i-init c = (omega arith, (omega arith, (omega arith, (omega arith, stripping_start _ _))))
 

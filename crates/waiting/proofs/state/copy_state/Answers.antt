@@ -2,7 +2,5 @@
 use Rattle.waiting.proofs.States.{a_state_is_copied}
 use Rattle.waiting.proofs.state.copy_state.Goals as goal
 
--- NOTE: 12 old answers, 11 goals
-
 pub returns : goal.returns
 returns c = a_state_is_copied _ _ _ _ c.loop-k.k c.loop-k-test.false c.loop-k.invariant

@@ -2,7 +2,5 @@
 use Rattle.waiting.proofs.Words.{writing_five_words}
 use Rattle.waiting.proofs.state.write_held.Goals as goal
 
--- NOTE: 16 old answers, 15 goals
-
 pub returns : goal.returns
 returns c = writing_five_words _ _ _ c.requires

@@ -2,7 +2,5 @@
 use Rattle.waiting.proofs.States.{the_start_is_written}
 use Rattle.waiting.proofs.state.write_start.Goals as goal
 
--- NOTE: 7 old answers, 6 goals
-
 pub returns : goal.returns
 returns c = the_start_is_written _ _ _ _ _ _ _ c.forget.ensures c.put_register.ensures c.put_register-2.ensures c.exactly.ensures c.exactly-2.ensures

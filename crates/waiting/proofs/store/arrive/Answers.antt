@@ -2,8 +2,6 @@
 use Rattle.waiting.proofs.Blocks.{a_state_comes_to_a_marked_block, a_state_comes_to_an_unmarked_block}
 use Rattle.waiting.proofs.store.arrive.Goals as goal
 
--- NOTE: 17 old answers, 15 goals
-
 pub returns : goal.returns
 returns c =
     a_state_comes_to_an_unmarked_block _ _ _ _ _ _ c.requires.0 c.requires.1 c.requires.2 c.if-m-place-eq1.false c.copy_state.ensures

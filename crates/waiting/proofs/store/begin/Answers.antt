@@ -2,8 +2,6 @@
 use Rattle.waiting.proofs.Blocks.{the_start_waits}
 use Rattle.waiting.proofs.store.begin.Goals as goal
 
--- NOTE: 5 old answers, 4 goals
-
 pub returns : goal.returns
 returns c =
     the_start_waits _ _ _ _ c.requires.0 c.requires.1 c.clear.ensures c.write_start.ensures

@@ -1,7 +1,7 @@
 -- `mul64` is `alu 64` at `Mul`. The product is that of the halves.
-use Rattle.std.proofs.Common.{sym, ◌∙◌, arith, rules}
+use Rattle.std.proofs.Common.{sym, ◌∙◌}
 use Rattle.word.specs.Word.{alu, cut}
-use Rattle.word.proofs.Cut.{product_fits, product_by_halves, product_mod}
+use Rattle.word.proofs.Cut.{product_by_halves, product_mod}
 use Rattle.word.proofs.arithmetic64.mul64.Goals as goal
 
 pub returns : goal.returns

@@ -1,5 +1,5 @@
 -- `extend32` is `extend 32`. Half the range is added at the width and taken off at 64 bits.
-use Rattle.std.proofs.Common.{arith, rules}
+use Rattle.std.proofs.Common.{arith}
 use Rattle.word.specs.Word.{cut, moved}
 use Rattle.word.proofs.Extend.{extend_of_moved}
 use Rattle.word.proofs.sign.extend32.Goals as goal
