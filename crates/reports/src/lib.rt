@@ -1,2 +1,4 @@
 // What the verifier answers, for people.
+#![tactic(auto)]
+
 pub mod answer;
