@@ -11,6 +11,7 @@ use run::run;
 use terminal::arguments::{help_on, refuse_arguments, refuse_words, take_arguments};
 use terminal::host::Terminal;
 use terminal::program::{LONGEST_FILE, fetch_program};
+use terminal::room::{zero_bytes, zero_words};
 use verifier::verify::verify;
 use waiting::MOST_WORDS;
 
@@ -82,8 +83,8 @@ fn serve(
 // Memory for the longest program and the verifier's.
 fn main(rt: HostRuntime) {
     let mut args = [0u8; 65536];
-    let mut program = [0u8; LONGEST_FILE];
-    let mut scratch = [0u64; MOST_WORDS];
+    let mut program = zero_bytes::<LONGEST_FILE>();
+    let mut scratch = zero_words::<MOST_WORDS>();
     let mut rec = [0u8; 1026];
     let mut stack = [0u8; 512];
     let mut out = [0u8; 4096];
