@@ -31,7 +31,8 @@ use Rattle.analysis.specs.Safe.{Bytes}
 use Rattle.analysis.proofs.Literal.{conclude_halted, conclude_onward}
 use Rattle.analysis.proofs.LayoutFree.{Config, Course, stuck, ends, goes, free}
 use Rattle.analysis.proofs.Meaning.{Describes, Awaits, meeting_covers_waiting, meeting_covers_coming}
-use Rattle.analysis.proofs.Sound.{WordOperand, Words, Follows, effect_follows}
+use Rattle.analysis.proofs.Sound.{WordOperand, Words, Follows}
+use Rattle.analysis.proofs.SoundInstructions.{effect_follows}
 use Rattle.analysis.proofs.Stable.{Into, Stable, Falls}
 
 -- ---- what an instruction holds is of 64 bits

@@ -3,6 +3,7 @@ pub mod Eleven
 pub mod ExactEffects
 pub mod FormLaws
 pub mod Judgement
+pub mod KnownBefore
 pub mod LayoutFree
 pub mod Literal
 pub mod LongerRecord
@@ -11,6 +12,7 @@ pub mod OperableFacts
 pub mod Paths
 pub mod Programs
 pub mod Promised
+pub mod Reaching
 pub mod Reasons
 pub mod Refusing
 pub mod Roles
@@ -21,8 +23,10 @@ pub mod SharperPrograms
 pub mod SharperValues
 pub mod Simulation
 pub mod Sound
+pub mod SoundInstructions
 pub mod Stable
 pub mod StackSize
+pub mod Targets
 pub mod Tests
 pub mod Theorem
 pub mod Told

@@ -1,5 +1,5 @@
--- Each instruction that the analysis lets pass: the layout-free machine is not stuck on it, and goes where the analysis says, to what it
--- says.
+-- Each kind of instruction that the analysis lets pass: the layout-free machine is not stuck on it, and goes where the analysis says, to
+-- what it says.
 use mathlib.Core.Path.{◌≡◌, refl, sym, ◌∙◌, subst}
 use mathlib.Core.Bool.{Bool, true, false, cond, ◌||◌}
 use mathlib.Core.Logic.{◌⊎◌, inl, inr}
@@ -12,8 +12,7 @@ use lib.Dec.{eqb}
 use borrow.Author.Tests.{le-leb}
 use Rattle.word.specs.Word.{cut, alu, compare}
 use Rattle.word.specs.declared.Operation.{Operation}
-use Rattle.word.specs.declared.Operation.TheVariants.{Add, Sub, Mul, Div, Or, And, Lsh, Rsh, Mod, Xor, Mov, Arsh}
-use Rattle.word.specs.declared.Operation.TheVariants as operation
+use Rattle.word.specs.declared.Operation.TheVariants.{Add, Sub}
 use Rattle.word.specs.declared.Comparison.{Comparison}
 use Rattle.word.proofs.Bytes.{read_below, write_length, write_keeps_bytes}
 use Rattle.word.proofs.Cut.{cut_64}
@@ -42,12 +41,12 @@ use Rattle.analysis.specs.declared.Value.TheVariants.{Unusable, Plain, Address}
 use Rattle.analysis.specs.declared.Effect.{Effect}
 use Rattle.analysis.specs.declared.Effect.TheVariants.{Refuse, Put, Keep, Fork}
 use Rattle.analysis.specs.Values.{Facts, value_of, operand_of}
-use Rattle.analysis.specs.Effects.{is_never, is_mixed, reading, reading_both, put, Role, copies, converts, adds, subtracts, calculates, role, calculate, sum, difference, arithmetic, limit, load, store_at, store, told, fork, exit, effect}
+use Rattle.analysis.specs.Effects.{is_never, is_mixed, reading, reading_both, put, Role, copies, converts, adds, subtracts, calculates, calculate, sum, difference, arithmetic, limit, load, store_at, store, told, fork, exit}
 use Rattle.analysis.specs.Judged.{having, with_operand, along, Flow, refuses, flows, apply}
 use Rattle.analysis.specs.Safe.{Bytes}
 use Rattle.analysis.proofs.Literal.{along_possible}
 use Rattle.analysis.proofs.Told.{told_sound}
-use Rattle.analysis.proofs.LayoutFree.{Cell, unset, number, offset, Config, Course, stuck, ends, goes, cell_of, operand_cell, put_cell, copied, calculated, summed, subtracted, worked, region, loaded_at, loaded, stored_at, stored, jumped_to, forked, exited, free}
+use Rattle.analysis.proofs.LayoutFree.{Cell, unset, number, offset, Config, Course, stuck, ends, goes, cell_of, operand_cell, put_cell, copied, calculated, summed, subtracted, worked, region, loaded_at, loaded, stored_at, stored, jumped_to, forked, exited}
 use Rattle.analysis.proofs.Meaning.{Stands, Describes, Awaits, stand_get, stand_set, stand_learn}
 use Rattle.number.proofs.Laws.{exact_in, loaded_in, computed_sound, fits_sound}
 
@@ -95,7 +94,7 @@ module _ (a : Facts) (c : Config) (d : Describes a c) where
       go false = inl (refl, record { registers = stand_set a.registers c.registers r v x d.registers h; stack_size = d.stack_size; stack_bytes = d.stack_bytes })
 
   -- a refusal comes before any effect
-  reading_follows : (v : Value) (e : Effect) (o : Course) → Follows c.index (apply a e) o → Follows c.index (apply a (reading v e)) o
+  pub reading_follows : (v : Value) (e : Effect) (o : Course) → Follows c.index (apply a e) o → Follows c.index (apply a (reading v e)) o
   unfolding reading apply
   reading_follows v e o h = go (is_never v) (is_mixed v)
     where
@@ -104,7 +103,7 @@ module _ (a : Facts) (c : Config) (d : Describes a c) where
       go false true = tt
       go false false = h
 
-  reading_both_follows : (u v : Value) (e : Effect) (o : Course) → Follows c.index (apply a e) o → Follows c.index (apply a (reading_both u v e)) o
+  pub reading_both_follows : (u v : Value) (e : Effect) (o : Course) → Follows c.index (apply a e) o → Follows c.index (apply a (reading_both u v e)) o
   unfolding reading_both apply
   reading_both_follows u v e o h = go (is_never u || is_never v) (is_mixed u || is_mixed v)
     where
@@ -117,13 +116,13 @@ module _ (a : Facts) (c : Config) (d : Describes a c) where
   unfolding value_of cell_of
   value_stands r = stand_get a.registers c.registers r d.registers
 
-  operand_stands : (s : Operand) → WordOperand s → Stands (operand_of a s) (operand_cell c s)
+  pub operand_stands : (s : Operand) → WordOperand s → Stands (operand_of a s) (operand_cell c s)
   unfolding operand_of operand_cell
   operand_stands (Immediate n) h = exact_in n h
   operand_stands (Register r) h = value_stands r
 
   -- ---- arithmetic
-  calculate_follows : (w : ℕ) → (w ≡ 64) ⊎ (w ≡ 32) → (op : Operation) (r : ℕ) (u v : Value) (x y : Cell) → Stands u x → Stands v y
+  pub calculate_follows : (w : ℕ) → (w ≡ 64) ⊎ (w ≡ 32) → (op : Operation) (r : ℕ) (u v : Value) (x y : Cell) → Stands u x → Stands v y
       → Follows c.index (apply a (calculate w op r u v)) (calculated w op c r x y)
   unfolding calculate calculated apply
   calculate_follows w ww op r (Unusable g) v x y h k = tt
@@ -187,7 +186,7 @@ module _ (a : Facts) (c : Config) (d : Describes a c) where
   copy_follows r (Address q n) (number y) k = absurd k
   copy_follows r (Address q n) (offset l o) k = put_follows r (Address q n) (offset l o) k
 
-  arithmetic_follows : (e : Role) (w : ℕ) → (w ≡ 64) ⊎ (w ≡ 32) → (op : Operation) (r : ℕ) (u v : Value) (x y : Cell) → Stands u x → Stands v y
+  pub arithmetic_follows : (e : Role) (w : ℕ) → (w ≡ 64) ⊎ (w ≡ 32) → (op : Operation) (r : ℕ) (u v : Value) (x y : Cell) → Stands u x → Stands v y
       → Follows c.index (apply a (arithmetic e w op r u v)) (worked e w op c r x y)
   unfolding arithmetic worked
   arithmetic_follows copies w ww op r u v x y h k = copy_follows r v y k
@@ -227,7 +226,7 @@ module _ (a : Facts) (c : Config) (d : Describes a c) where
       go true e = inr (omega arith, refl, same _ (along a r s (told w k true m n)) (along_awaits r s x y (told w k true m n) p q (told_sound w k true m n x y h l e)))
       go false e = inl (refl, same _ (along a r s (told w k false m n)) (along_awaits r s x y (told w k false m n) p q (told_sound w k false m n x y h l e)))
 
-  fork_follows : (w : Width) (k : Comparison) (r : ℕ) (s : Operand) (off : ℕ) (u v : Value) (x y : Cell) → cell_of c r ≡ x → operand_cell c s ≡ y → Stands u x → Stands v y
+  pub fork_follows : (w : Width) (k : Comparison) (r : ℕ) (s : Operand) (off : ℕ) (u v : Value) (x y : Cell) → cell_of c r ≡ x → operand_cell c s ≡ y → Stands u x → Stands v y
       → Follows c.index (apply a (fork w k r s (c.index + 1 + off) u v)) (forked w k c off x y)
   unfolding fork forked apply
   fork_follows w k r s off (Unusable g) v x y p q h l = tt
@@ -240,7 +239,7 @@ module _ (a : Facts) (c : Config) (d : Describes a c) where
   fork_follows w k r s off (Plain m) (Address b n) x y p q h l = tt
   fork_follows w k r s off (Address b m) v x y p q h l = tt
 
-  exit_follows : (v : Value) (x : Cell) → Stands v x → Follows c.index (apply a (reading v (exit v))) (exited x)
+  pub exit_follows : (v : Value) (x : Cell) → Stands v x → Follows c.index (apply a (reading v (exit v))) (exited x)
   unfolding reading is_never is_mixed exit exited apply
   exit_follows (Unusable Never) x h = tt
   exit_follows (Unusable Mixed) x h = tt
@@ -263,7 +262,7 @@ module _ (a : Facts) (c : Config) (d : Describes a c) where
     region_bytes Record = record_bytes
     region_bytes Stack = d.stack_bytes
 
-    load_follows : (z : Size) (r off : ℕ) → off < 2 ^ 64 → (v : Value) (x : Cell) → Stands v x
+    pub load_follows : (z : Size) (r off : ℕ) → off < 2 ^ 64 → (v : Value) (x : Cell) → Stands v x
         → Follows c.index (apply a (load (length rec) (bytes z) r off v)) (loaded rec (bytes z) c r off x)
     unfolding load loaded loaded_at apply
     load_follows z r off f (Unusable g) x h = tt
@@ -306,7 +305,7 @@ module _ (a : Facts) (c : Config) (d : Describes a c) where
             ))
         go false e = tt
 
-    store_follows : (z : Size) (off : ℕ) → off < 2 ^ 64 → (u v : Value) (x y : Cell) → Stands u x → Stands v y
+    pub store_follows : (z : Size) (off : ℕ) → off < 2 ^ 64 → (u v : Value) (x y : Cell) → Stands u x → Stands v y
         → Follows c.index (apply a (store (bytes z) off u v)) (stored (bytes z) c off x y)
     unfolding store apply
     store_follows z off f u (Unusable g) x y h k = tt
@@ -314,16 +313,3 @@ module _ (a : Facts) (c : Config) (d : Describes a c) where
     store_follows z off f u (Plain n) x (number y) h k = store_at_follows z off f u x n y h
     store_follows z off f u (Plain n) x (offset q o) h k = absurd k
     store_follows z off f u (Address q n) x y h k = tt
-
-    -- ---- each instruction
-    pub effect_follows : (ins : Instruction) → Words ins → Follows c.index (apply a (effect (length rec) c.index a ins)) (free rec c ins)
-    unfolding effect free apply jumped_to
-    effect_follows (Alu w op r s) h = arithmetic_follows (role w op) (bits w) (wide w) op r _ _ _ _ (value_stands r) (operand_stands s h)
-    effect_follows (Neg w r) h = reading_follows _ _ _ (calculate_follows (bits w) (wide w) operation.Neg r _ _ _ _ (value_stands r) (value_stands r))
-    effect_follows (Jump w k r s off) h = reading_both_follows _ _ _ _ (fork_follows w k r s off _ _ _ _ refl refl (value_stands r) (operand_stands s h))
-    effect_follows (Always off) h =
-        inr (omega arith, refl, record { registers = d.registers; stack_size = d.stack_size; stack_bytes = d.stack_bytes })
-    effect_follows Exit h = exit_follows _ _ (value_stands 0)
-    effect_follows (Load z r s off) h = reading_follows _ _ _ (load_follows z r off h _ _ (value_stands s))
-    effect_follows (Store z r off s) h = reading_both_follows _ _ _ _ (store_follows z off h.0 _ _ _ _ (value_stands r) (operand_stands s h.1))
-    effect_follows NoInstruction h = tt

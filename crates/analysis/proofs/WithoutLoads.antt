@@ -21,7 +21,8 @@ use Rattle.analysis.specs.Judged.{flows, along, apply, Waiting, nobody, arrive, 
 use Rattle.analysis.specs.Safe.{Bytes}
 use Rattle.analysis.proofs.LayoutFree.{Config, Course, stuck, ends, goes, free, Comes, at_once, later, start_config}
 use Rattle.analysis.proofs.Meaning.{Describes, Awaits}
-use Rattle.analysis.proofs.Sound.{Follows, effect_follows}
+use Rattle.analysis.proofs.Sound.{Follows}
+use Rattle.analysis.proofs.SoundInstructions.{effect_follows}
 use Rattle.analysis.proofs.Annotated.{instruction_words}
 use Rattle.analysis.proofs.Refusing.{Lawful, effect_lawful, some_instruction}
 use Rattle.analysis.proofs.FormLaws.{orderly_passes}

@@ -23,7 +23,8 @@ use Rattle.number.specs.Sharpen.{narrowed, exact, just}
 use Rattle.number.specs.Compare.{bounds, common, equal, ordered, unequal, disjoint, resharpened, refined}
 use Rattle.number.proofs.Sharpening.{sharpened_exact}
 use Rattle.number.proofs.Outcomes.{left_map, nothing_left, exchanged_leaves}
-use Rattle.number.proofs.Relations.{Relation, Below, SignedBelow, Exchanged, Same, Different, Disjoint, Overlapping, Holds, Ordering, told, relation, refined_is_told, goes_if_it_holds, Unsigned, Plain, below, above, same, different, unsigned_is_plain}
+use Rattle.number.proofs.Relations.{Relation, Below, SignedBelow, Exchanged, Same, Different, Disjoint, Overlapping, Holds, Ordering, told, relation, refined_is_told, Unsigned, Plain, below, above, same, different, unsigned_is_plain}
+use Rattle.number.proofs.WordsGo.{goes_if_it_holds}
 use Rattle.number.proofs.Orders.{OrderLeft, ordered_leaves, bounds_within_range}
 use Rattle.number.proofs.Equality.{equal_leaves_ranges, RangesLeft, unequal_leaves, UnequalLeft}
 use Rattle.number.proofs.SharedBits.{disjoint_leaves, DisjointLeft}

@@ -11,7 +11,8 @@ use Rattle.number.specs.declared.Number.{Number}
 use Rattle.number.specs.Meaning.{In, Narrower, Kept, Left}
 use Rattle.number.specs.Compare.{equal, ordered, unequal, disjoint, overlapping, signed_ordered, resharpened, refined}
 use Rattle.number.proofs.Outcomes.{Sharper, sharper_exchanged, left_map, exchanged_keeps, exchanged_leaves}
-use Rattle.number.proofs.Relations.{Relation, Below, SignedBelow, Exchanged, Same, Different, Disjoint, Overlapping, Holds, told, relation, refined_is_told, goes_if_it_holds}
+use Rattle.number.proofs.Relations.{Relation, Below, SignedBelow, Exchanged, Same, Different, Disjoint, Overlapping, Holds, told, relation, refined_is_told}
+use Rattle.number.proofs.WordsGo.{goes_if_it_holds}
 use Rattle.number.proofs.Orders.{OrderLeft, ordered_sound, ordered_leaves}
 use Rattle.number.proofs.Equality.{equal_sound, equal_leaves, unequal_sound, unequal_leaves, UnequalLeft}
 use Rattle.number.proofs.SharedBits.{disjoint_sound, disjoint_leaves, DisjointLeft, overlapping_sound, overlapping_leaves, OverlapLeft, resharpened_form, resharpened_narrower}

@@ -22,7 +22,8 @@ use Rattle.number.specs.Computed.{modulo, second, computed_range, computed}
 use Rattle.number.proofs.Known.{low_of_words}
 use Rattle.number.proofs.Operands.{block_of_more, Wide, base, base_is_power, second_is_modulo, modulo_in, modulo_below, second_below}
 use Rattle.number.proofs.Outcomes.{Some}
-use Rattle.number.proofs.RangesInOrder.{Shrinks, block_shrinks, ranged_shrinks}
+use Rattle.number.proofs.RangedInOrder.{ranged_shrinks}
+use Rattle.number.proofs.RangesInOrder.{Shrinks, block_shrinks}
 use Rattle.number.proofs.Results.{wide_at_most_64}
 use Rattle.number.proofs.SharpenedInOrder.{sharpened_in_order}
 use Rattle.number.proofs.Shorter.{block_of_small}

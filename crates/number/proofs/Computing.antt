@@ -19,7 +19,7 @@ use Rattle.number.specs.Sharpen.{just, exact}
 use Rattle.number.specs.Computed.{modulo, second, computed_range, computed, fits}
 use Rattle.number.proofs.Known.{exact_in}
 use Rattle.number.proofs.Operands.{Wide, modulo_in, modulo_below, second_in, second_below}
-use Rattle.number.proofs.RangeLaws.{ranged_sound}
+use Rattle.number.proofs.RangedSound.{ranged_sound}
 use Rattle.number.proofs.Results.{wide_at_most_64}
 use Rattle.number.proofs.Sharpening.{sharpened_keeps, sharpened_form, sharpened_bits_within, sharpened_range_within, sharpened_exact}
 

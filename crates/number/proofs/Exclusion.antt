@@ -17,7 +17,8 @@ use Rattle.number.specs.declared.Refined.TheVariants.{Excluded}
 use Rattle.number.specs.Meaning.{Within, Left}
 use Rattle.number.specs.Compare.{common, equal, ordered, unequal, disjoint, overlapping, signed_ordered, resharpened, refined}
 use Rattle.number.proofs.Outcomes.{Some, Sharper, left_map, nothing_left, exchanged_leaves}
-use Rattle.number.proofs.Relations.{Relation, Below, SignedBelow, Exchanged, Same, Different, Disjoint, Overlapping, Holds, Ordering, told, relation, refined_is_told, goes_if_it_holds, all_but_set_are_orderings}
+use Rattle.number.proofs.Relations.{Relation, Below, SignedBelow, Exchanged, Same, Different, Disjoint, Overlapping, Holds, Ordering, told, relation, refined_is_told, all_but_set_are_orderings}
+use Rattle.number.proofs.WordsGo.{goes_if_it_holds}
 use Rattle.number.proofs.Orders.{OrderLeft, ordered_leaves, bounds_within_range, bounds_within_ends, ends}
 use Rattle.number.proofs.Equality.{equal_leaves_ranges, equal_leaves_bits, RangesLeft, BitsLeft, unequal_leaves, unequal_ends, UnequalLeft}
 use Rattle.number.proofs.SharedBits.{disjoint_leaves, DisjointLeft, overlapping_leaves, OverlapLeft, resharpened_form}

@@ -24,7 +24,7 @@ use Rattle.number.specs.declared.Range.{Range}
 use Rattle.number.specs.declared.Number.{Number}
 use Rattle.number.specs.declared.Refined.{Refined}
 use Rattle.number.specs.declared.Refined.TheVariants.{Excluded, Possible}
-use Rattle.number.specs.Meaning.{Within, In, RangeWithin, Narrower, Kept, Left}
+use Rattle.number.specs.Meaning.{In, Narrower, Kept, Left}
 use Rattle.number.specs.Sharpen.{just, exact}
 use Rattle.number.specs.Compare.{settled, common, equal, firsts, taken, refined}
 use Rattle.number.specs.Halves.{unsigned, signed, low_half, moved_half, compared, moved_back, low_halves, halves, halves_of_bits, halves_of_range, with_low, whole, taken32, not_taken32, refined32, UpperKept}
@@ -38,6 +38,7 @@ use Rattle.number.proofs.HalfOrders.{key_by, key, key_fits, compare_by_keys, mov
 use Rattle.number.proofs.Known.{exact_in}
 use Rattle.number.proofs.Operands.{same_ends}
 use Rattle.number.proofs.Outcomes.{Some, Sharper, left_map, firsts_keep, firsts_leave, settled_keeps, settled_leaves}
+use Rattle.number.proofs.HalfRanges.{halves_of_range_have, halves_of_range_within}
 
 -- ---- the low half, the half moved, and the one of them that is compared
 module _ (n : Number) where
@@ -84,18 +85,6 @@ low_half_agrees n x g a =
 -- ---- a number with another low half
 pub member_agrees : (p : Bits) (x : ℕ) → Mem 64 p (cut 32 x) → LowAgrees p x
 member_agrees p x i = record { agrees = λ k l e. sym (cut_bit 32 k x l) ∙ i.agrees k (omega arith) e }
-
-module _ (r t : Range) where
-  halves_of_range_have : (x : ℕ) → Within r x → Within t (cut 32 x) → Within (halves_of_range r t) x
-  unfolding halves_of_range common cut
-  halves_of_range_have x i j =
-      by_less (λ u. Within u x) r.hi (2 ^ 32) (λ h. record { low = omega arith; high = omega arith }) (λ h. i)
-
-  pub halves_of_range_within : RangeWithin (halves_of_range r t) r
-  unfolding halves_of_range common
-  halves_of_range_within =
-      by_less (λ u. RangeWithin u r) r.hi (2 ^ 32) (λ h. record { low = omega arith; high = omega arith })
-      (λ h. record { low = omega arith; high = omega arith })
 
 module _ (n l : Number) where
   with_low_keeps : (x : ℕ) → In n x → In l (cut 32 x) → In (with_low n l) x

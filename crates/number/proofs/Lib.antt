@@ -11,6 +11,7 @@ pub mod Equality
 pub mod Exclusion
 pub mod HalfBits
 pub mod HalfOrders
+pub mod HalfRanges
 pub mod Halves
 pub mod HalvesAgainstKnown
 pub mod HalvesBoth
@@ -26,6 +27,8 @@ pub mod Orders
 pub mod Outcomes
 pub mod PowersAndShifts
 pub mod RangeLaws
+pub mod RangedInOrder
+pub mod RangedSound
 pub mod RangesInOrder
 pub mod Relations
 pub mod Results
@@ -38,3 +41,4 @@ pub mod SumLaws
 pub mod Tightness
 pub mod Vectors
 pub mod WaysInOrder
+pub mod WordsGo

@@ -34,7 +34,8 @@ use Rattle.number.proofs.ComputedInOrder.{word_operand, operand_of_member, modul
 use Rattle.number.proofs.Compare.{refined_form}
 use Rattle.number.proofs.Computing.{computed_form, computed_range_within}
 use Rattle.number.proofs.HalfBits.{halves_upper, halves_low_bit}
-use Rattle.number.proofs.Halves.{LowOf, with_low_form, halves_of_range_within, told, refined32_is}
+use Rattle.number.proofs.HalfRanges.{halves_of_range_within}
+use Rattle.number.proofs.Halves.{LowOf, with_low_form, told, refined32_is}
 use Rattle.number.proofs.HalvesInOrder.{halves_left}
 use Rattle.number.proofs.Known.{joined_form, joined_wider_left, joined_wider_right}
 use Rattle.number.proofs.Operands.{block_keeps, Wide, at_either_width, base, rest_in_order, second_is_modulo}

@@ -5,23 +5,23 @@ use mathlib.Core.Bool.{true, false, cond}
 use Prim.Native.Nat.{ℕ, ◌+◌, ◌-◌, ◌*◌, ◌/◌, ◌%◌, ◌^◌, ◌≤◌, ◌<◌, min, max}
 use native.Mathlib.Nat.{mod-lt, mod-eq_of_lt, mul-le-mul, le_trans, le_refl}
 use native.Mathlib.Omega.{arith}
-use lib.Pow.{pow_pos, pow_mono}
+use lib.Pow.{pow_mono}
 use lib.Bits.{bit_or, or_lt}
 use lib.Dec.{eqb}
 use borrow.Author.Tests.{eqb-true, eq-eqb}
 use Rattle.word.specs.Word.{alu}
 use Rattle.word.specs.declared.Operation.{Operation}
-use Rattle.word.specs.declared.Operation.TheVariants.{Add, Sub, Mul, Div, Or, And, Lsh, Rsh, Neg, Mod, Xor, Mov, Arsh}
+use Rattle.word.specs.declared.Operation.TheVariants.{Add, Sub, Mul, Div, Or, Lsh, Rsh, Mod, Arsh}
 use Rattle.number.specs.declared.Range.{Range}
 use Rattle.number.specs.Meaning.{Within, RangeWithin}
-use Rattle.number.specs.Sharpen.{just, everything}
-use Rattle.number.specs.Ranges.{straight, crossed, sum_range, difference_range, product_range, quotient_range, same_quotient, rest_range, longest, left_range, signed_right_range, ranged}
+use Rattle.number.specs.Sharpen.{everything}
+use Rattle.number.specs.Ranges.{straight, crossed, sum_range, difference_range, product_range, quotient_range, same_quotient, rest_range, longest, left_range, signed_right_range}
 use Rattle.number.specs.Computed.{block}
 use Rattle.number.proofs.Cases.{both_hold, by_test, by_less, by_at_most, by_equal}
-use Rattle.number.proofs.Operands.{Wide, base, rest_in_order, same_quotient_between}
+use Rattle.number.proofs.Operands.{rest_in_order, same_quotient_between}
 use Rattle.number.proofs.Outcomes.{Some}
 use Rattle.number.proofs.RangeLaws.{sum_range_has, difference_range_has, product_range_has, quotient_range_has, rest_range_has, at_most_the_longest, or_range_has, left_range_has, right_range_has, signed_right_range_has}
-use Rattle.number.proofs.Results.{rest_is, rest_by_none, wide_at_most_64, word}
+use Rattle.number.proofs.Results.{rest_is, rest_by_none}
 use Rattle.number.proofs.Sharpening.{up_to_below}
 
 -- r' lies in r, and is not empty
@@ -29,7 +29,7 @@ pub record Shrinks (r' r : Range) : Type 0 where
   pub within : RangeWithin r' r
   pub some : Some r'
 
-same_range : (r : Range) → RangeWithin r r
+pub same_range : (r : Range) → RangeWithin r r
 same_range r = record { low = le_refl r.lo; high = le_refl r.hi }
 
 some_of : (r : Range) (x : ℕ) → Within r x → Some r
@@ -102,7 +102,7 @@ module _ (a' b' a b : Range) (ra : RangeWithin a' a) (rb : RangeWithin b' b) (na
         → ((x y : ℕ) → a'.hi < 2 ^ 64 → b'.hi < 2 ^ 64 → Within a' x → Within b' y → Within r' (alu 64 op x y)) → Some r'
     some_result op r' has = some_of r' _ (has a'.lo b'.lo ha' hb' (lowest a' na) (lowest b' nb))
 
-    sum_shrinks : Shrinks (sum_range a' b') (sum_range a b)
+    pub sum_shrinks : Shrinks (sum_range a' b') (sum_range a b)
     unfolding sum_range
     sum_shrinks =
         let P : Range → Type 0 = λ s. RangeWithin s (sum_range a b) in
@@ -116,7 +116,7 @@ module _ (a' b' a b : Range) (ra : RangeWithin a' a) (rb : RangeWithin b' b) (na
           some = some_result Add _ (sum_range_has a' b');
         }
 
-    difference_shrinks : Shrinks (difference_range a' b') (difference_range a b)
+    pub difference_shrinks : Shrinks (difference_range a' b') (difference_range a b)
     unfolding difference_range
     difference_shrinks =
         let P : Range → Type 0 = λ s. RangeWithin s (difference_range a b) in
@@ -131,7 +131,7 @@ module _ (a' b' a b : Range) (ra : RangeWithin a' a) (rb : RangeWithin b' b) (na
           some = some_result Sub _ (difference_range_has a' b');
         }
 
-    product_shrinks : Shrinks (product_range a' b') (product_range a b)
+    pub product_shrinks : Shrinks (product_range a' b') (product_range a b)
     unfolding product_range
     product_shrinks =
         let p : a'.hi * b'.hi ≤ a.hi * b.hi = mul-le-mul ra.high rb.high in
@@ -142,7 +142,7 @@ module _ (a' b' a b : Range) (ra : RangeWithin a' a) (rb : RangeWithin b' b) (na
           some = some_result Mul _ (product_range_has a' b');
         }
 
-    quotient_shrinks : Shrinks (quotient_range a' b') (quotient_range a b)
+    pub quotient_shrinks : Shrinks (quotient_range a' b') (quotient_range a b)
     unfolding quotient_range
     quotient_shrinks =
         record {
@@ -177,7 +177,7 @@ module _ (a' b' a b : Range) (ra : RangeWithin a' a) (rb : RangeWithin b' b) (na
         rw (eq-eqb b'.lo b'.hi (omega (arith, rb.low, rb.high)))
         (eq-eqb (a'.lo / b'.lo) (a'.hi / b'.lo) (rw c (sym f.0 ∙ g.0)))
 
-    rest_shrinks : Shrinks (rest_range a' b') (rest_range a b)
+    pub rest_shrinks : Shrinks (rest_range a' b') (rest_range a b)
     unfolding rest_range
     rest_shrinks =
         let P : Range → Type 0 = λ s. RangeWithin s (rest_range a b) in
@@ -204,22 +204,22 @@ module _ (a' b' a b : Range) (ra : RangeWithin a' a) (rb : RangeWithin b' b) (na
     longest_shrinks : longest a' b' ≤ longest a b
     longest_shrinks = at_most_the_longest a b a'.hi b'.hi ha hb ah bh (longest a' b') (no_longer a' b')
 
-    or_shrinks : Shrinks (record { lo = max a'.lo b'.lo; hi = longest a' b' }) (record { lo = max a.lo b.lo; hi = longest a b })
+    pub or_shrinks : Shrinks (record { lo = max a'.lo b'.lo; hi = longest a' b' }) (record { lo = max a.lo b.lo; hi = longest a b })
     or_shrinks =
         record {
           within = record { low = omega (arith, ra.low, rb.low); high = longest_shrinks };
           some = some_result Or _ (or_range_has a' b');
         }
 
-    xor_shrinks : Shrinks (record { lo = 0; hi = longest a' b' }) (record { lo = 0; hi = longest a b })
+    pub xor_shrinks : Shrinks (record { lo = 0; hi = longest a' b' }) (record { lo = 0; hi = longest a b })
     xor_shrinks = record { within = record { low = omega arith; high = longest_shrinks }; some = omega arith }
 
-    and_shrinks : Shrinks (record { lo = 0; hi = min a'.hi b'.hi }) (record { lo = 0; hi = min a.hi b.hi })
+    pub and_shrinks : Shrinks (record { lo = 0; hi = min a'.hi b'.hi }) (record { lo = 0; hi = min a.hi b.hi })
     and_shrinks = record { within = record { low = omega arith; high = omega (arith, ra.high, rb.high) }; some = omega arith }
 
   -- shifts: b is a range of counts
   module _ (ha : a.hi < 2 ^ 64) (hb : b.hi < 64) where
-    left_shrinks : Shrinks (left_range a' b') (left_range a b)
+    pub left_shrinks : Shrinks (left_range a' b') (left_range a b)
     unfolding left_range
     left_shrinks =
         let p : a'.hi * 2 ^ b'.hi ≤ a.hi * 2 ^ b.hi = mul-le-mul ra.high (pow_mono rb.high) in
@@ -231,7 +231,7 @@ module _ (a' b' a b : Range) (ra : RangeWithin a' a) (rb : RangeWithin b' b) (na
               (omega (arith, rb.high)));
         }
 
-    right_shrinks : Shrinks (crossed 64 Rsh a' b') (crossed 64 Rsh a b)
+    pub right_shrinks : Shrinks (crossed 64 Rsh a' b') (crossed 64 Rsh a b)
     right_shrinks =
         record {
           within = crossed_within 64 Rsh _ (λ x n i j. right_range_has a b x n i j ha hb);
@@ -239,7 +239,7 @@ module _ (a' b' a b : Range) (ra : RangeWithin a' a) (rb : RangeWithin b' b) (na
               (omega (arith, rb.high)));
         }
 
-  signed_right_shrinks : (w : ℕ) → a.hi < 2 ^ w → b.hi < w → Shrinks (signed_right_range w a' b') (signed_right_range w a b)
+  pub signed_right_shrinks : (w : ℕ) → a.hi < 2 ^ w → b.hi < w → Shrinks (signed_right_range w a' b') (signed_right_range w a b)
   unfolding signed_right_range
   signed_right_shrinks w ha hb =
       let P : Range → Type 0 = λ s. RangeWithin s (signed_right_range w a b) in
@@ -253,33 +253,3 @@ module _ (a' b' a b : Range) (ra : RangeWithin a' a) (rb : RangeWithin b' b) (na
         some = some_of _ _ (signed_right_range_has w a' b' a'.lo b'.lo (lowest a' na) (lowest b' nb) (omega (arith, ra.high))
             (omega (arith, rb.high)));
       }
-
--- ---- at either width, operands of w bits; of a shift the second is a range of counts
-pub ranged_shrinks : (w : ℕ) → Wide w → (op : Operation) (a' b' a b : Range) → Shrinks a' a → Shrinks b' b → a.hi < 2 ^ w
-    → b.hi < base w op
-    → Shrinks (ranged w op a' b') (ranged w op a b)
-unfolding ranged base just
-ranged_shrinks w h Add a' b' a b sa sb ha hb =
-    sum_shrinks a' b' a b sa.within sb.within sa.some sb.some (word w h _ ha) (word w h _ hb)
-ranged_shrinks w h Sub a' b' a b sa sb ha hb =
-    difference_shrinks a' b' a b sa.within sb.within sa.some sb.some (word w h _ ha) (word w h _ hb)
-ranged_shrinks w h Mul a' b' a b sa sb ha hb =
-    product_shrinks a' b' a b sa.within sb.within sa.some sb.some (word w h _ ha) (word w h _ hb)
-ranged_shrinks w h Div a' b' a b sa sb ha hb =
-    quotient_shrinks a' b' a b sa.within sb.within sa.some sb.some (word w h _ ha) (word w h _ hb)
-ranged_shrinks w h Or a' b' a b sa sb ha hb =
-    or_shrinks a' b' a b sa.within sb.within sa.some sb.some (word w h _ ha) (word w h _ hb)
-ranged_shrinks w h And a' b' a b sa sb ha hb =
-    and_shrinks a' b' a b sa.within sb.within sa.some sb.some (word w h _ ha) (word w h _ hb)
-ranged_shrinks w h Lsh a' b' a b sa sb ha hb =
-    left_shrinks a' b' a b sa.within sb.within sa.some sb.some (word w h _ ha) (omega (arith, wide_at_most_64 w h))
-ranged_shrinks w h Rsh a' b' a b sa sb ha hb =
-    right_shrinks a' b' a b sa.within sb.within sa.some sb.some (word w h _ ha) (omega (arith, wide_at_most_64 w h))
-ranged_shrinks w h Neg a' b' a b sa sb ha hb =
-    difference_shrinks (just 0) a' (just 0) a (same_range _) sa.within (le_refl 0) sa.some (pow_pos 64) (word w h _ ha)
-ranged_shrinks w h Mod a' b' a b sa sb ha hb =
-    rest_shrinks a' b' a b sa.within sb.within sa.some sb.some (word w h _ ha) (word w h _ hb)
-ranged_shrinks w h Xor a' b' a b sa sb ha hb =
-    xor_shrinks a' b' a b sa.within sb.within sa.some sb.some (word w h _ ha) (word w h _ hb)
-ranged_shrinks w h Mov a' b' a b sa sb ha hb = sb
-ranged_shrinks w h Arsh a' b' a b sa sb ha hb = signed_right_shrinks a' b' a b sa.within sb.within sa.some sb.some w ha hb

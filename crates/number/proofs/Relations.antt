@@ -3,7 +3,7 @@
 use mathlib.Core.Path.{◌≡◌, refl, ap}
 use mathlib.Core.Bool.{Bool, true, false, not}
 use mathlib.Core.Logic.{◌↔◌}
-use Prim.Native.Nat.{ℕ, ◌+◌, ◌^◌, ◌≤◌, ◌<◌}
+use Prim.Native.Nat.{ℕ, ◌+◌, ◌≤◌}
 use native.Mathlib.Omega.{arith}
 use lib.Bits.{bit_and}
 use lib.Dec.{eqb, leb, ltb}
@@ -11,7 +11,6 @@ use borrow.Author.Tests.{ltb-true, ltb-false, leb-true, leb-false, eqb-true, eqb
 use Rattle.word.specs.Word.{cut, moved, compare}
 use Rattle.word.specs.declared.Comparison.{Comparison}
 use Rattle.word.specs.declared.Comparison.TheVariants.{Eq, Gt, Ge, Set, Ne, Sgt, Sge, Lt, Le, Slt, Sle}
-use Rattle.word.proofs.Cut.{cut_64}
 pub use Rattle.number.specs.Demanded.{Unsigned, eq, ne, gt, ge, lt, le}
 use Rattle.number.specs.declared.Number.{Number}
 use Rattle.number.specs.declared.Refined.{Refined}
@@ -123,7 +122,7 @@ not_denied : (a b : ℕ) → (not (eqb a b) ≡ false) ↔ (a ≡ b)
 not_denied a b = (λ e. eqb-true a b (not-false (eqb a b) e), λ h. ap not (eq-eqb a b h))
 
 -- a comparison cuts its operands itself, so this asks nothing of them
-low_words_go : (c : Comparison) (way : Bool) (x y : ℕ) → (compare 64 c x y ≡ way) ↔ Holds (relation c way) (cut 64 x) (cut 64 y)
+pub low_words_go : (c : Comparison) (way : Bool) (x y : ℕ) → (compare 64 c x y ≡ way) ↔ Holds (relation c way) (cut 64 x) (cut 64 y)
 unfolding compare
 low_words_go Eq true x y = equal_to _ _
 low_words_go Gt true x y = less _ _
@@ -147,10 +146,6 @@ low_words_go Lt false x y = not_less _ _
 low_words_go Le false x y = not_at_most _ _
 low_words_go Slt false x y = not_less _ _
 low_words_go Sle false x y = not_at_most _ _
-
--- words go a way where they stand in its relation
-pub goes_if_it_holds : (c : Comparison) (way : Bool) (x y : ℕ) → x < 2 ^ 64 → y < 2 ^ 64 → (compare 64 c x y ≡ way) ↔ Holds (relation c way) x y
-goes_if_it_holds c way x y hx hy = rw (cut_64 {x = x} hx, cut_64 {x = y} hy) at (low_words_go c way x y)
 
 -- ---- the relations that compare numbers, not bits: those of every comparison but JSET
 abbrev pub Ordering : Relation → Type 0

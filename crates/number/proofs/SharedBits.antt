@@ -25,7 +25,7 @@ use Rattle.number.specs.Compare.{settled, resharpened, disjoint_by, disjoint_of,
 use Rattle.known_bits.proofs.LearnLaws.{cleared_learns}
 use Rattle.number.proofs.Sharpening.{sharpened_keeps, sharpened_form, sharpened_bits_within, sharpened_range_within}
 use Rattle.number.proofs.Outcomes.{Sharper, unless_leaves, settled_keeps, settled_leaves}
-use Rattle.number.proofs.Relations.{goes_if_it_holds}
+use Rattle.number.proofs.WordsGo.{goes_if_it_holds}
 
 -- ---- a Number whose halves have sharpened each other
 module _ (n : Number) where
