@@ -1,11 +1,10 @@
 // The batch protocol: a request a line on standard input, an answer a line on standard output.
-// Assumes that input ends within 2^64 reads. The first read or write that fails ends the program with its error.
+// Assumes that input ends within 2^64 reads; a read or a write that fails counts as the end of what it moves.
 #![tactic(auto)]
 
-ghost use Rattle.std.specs.Prelude.{◌+◌, ◌≤◌, length, IfOk};
+ghost use Rattle.std.specs.Prelude.{◌+◌, ◌≤◌, length};
 
 use console::answer::{LONGEST, respond};
-use std::io;
 use std::io::Read;
 use text::scan::find;
 use waiting::MOST_WORDS;
@@ -25,11 +24,14 @@ struct Held {
 }
 
 // Reads once behind `end`, and answers how many bytes came.
-fn refill<I: Read>(input: &mut I, window: &mut [u8], end: usize) -> io::Result<usize>
+fn refill<I: Read>(input: &mut I, window: &mut [u8], end: usize) -> usize
     requires { end ≤ length window.old }
-    ensures { IfOk result (λ n. end + n ≤ length window.old) }
+    ensures { end + result ≤ length window.old }
 {
-    input.read(&mut window[end..])
+    match input.read(&mut window[end..]) {
+        Ok(n) => n,
+        Err(_) => 0,
+    }
 }
 
 // Moves the bytes from `at` up to `end` to the front.
@@ -46,22 +48,22 @@ fn slide(window: &mut [u8], at: usize, end: usize)
     }
 }
 
-fn flush(rt: &impl Print, out: &[u8], n: usize) -> io::Result<()>
+fn flush(rt: &impl Print, out: &[u8], n: usize)
     requires { n ≤ length out.now }
 {
-    rt.write_all(&out[0..n])
+    let _ = rt.write_all(&out[0..n]);
 }
 
 // Writes what waits, where less than an answer's room is left, and answers how many bytes wait now.
-fn spare(rt: &impl Print, out: &[u8], n: usize) -> io::Result<usize>
+fn spare(rt: &impl Print, out: &[u8], n: usize) -> usize
     requires { n ≤ length out.now }
-    ensures { IfOk result (λ k. k ≤ length out.now) }
+    ensures { result ≤ length out.now }
 {
     if out.len() - n < 64 {
-        flush(rt, out, n)?;
-        return Ok(0);
+        flush(rt, out, n);
+        return 0;
     }
-    Ok(n)
+    n
 }
 
 // Answers the whole lines from `at` up to `end`, and answers where the first line starts that is not whole.
@@ -75,24 +77,24 @@ fn answer_lines(
     stack: &mut [u8],
     scratch: &mut [u64],
     out: &mut [u8],
-) -> io::Result<usize>
+) -> usize
     requires { (at ≤ end) × (end ≤ length window.now) }
-    ensures { IfOk result (λ k. (at ≤ k) × (k ≤ end)) }
+    ensures { (at ≤ result) × (result ≤ end) }
 {
     let mut from = at;
     let mut o = 0;
     while from < end {
         let stop = find(&window[0..end], from, b'\n');
         if stop >= end {
-            flush(rt, out, o)?;
-            return Ok(from);
+            flush(rt, out, o);
+            return from;
         }
         o = respond(&window[from..stop], program, rec, stack, scratch, out, o);
-        o = spare(rt, out, o)?;
+        o = spare(rt, out, o);
         from = stop + 1;
     }
-    flush(rt, out, o)?;
-    Ok(from)
+    flush(rt, out, o);
+    from
 }
 
 // A line that was too long has its answer already: what is left of it is passed over.
@@ -120,14 +122,14 @@ fn past_long(window: &[u8], end: usize, long: bool) -> Front
 }
 
 // A line that is too long before its end is seen is answered here, and nothing of it is kept.
-fn kept(rt: &impl Print, held: usize) -> io::Result<usize>
-    ensures { IfOk result (λ k. k ≤ held) }
+fn kept(rt: &impl Print, held: usize) -> usize
+    ensures { result ≤ held }
 {
     if held > LONGEST {
-        rt.write_all(b"error\n")?;
-        return Ok(0);
+        let _ = rt.write_all(b"error\n");
+        return 0;
     }
-    Ok(held)
+    held
 }
 
 // The last line, where it has no line end.
@@ -140,14 +142,13 @@ fn last(
     stack: &mut [u8],
     scratch: &mut [u64],
     out: &mut [u8],
-) -> io::Result<()>
+)
     requires { held ≤ length window.now }
 {
     if held > 0 {
         let o = respond(&window[0..held], program, rec, stack, scratch, out, 0);
-        flush(rt, out, o)?;
+        flush(rt, out, o);
     }
-    Ok(())
 }
 
 // Answers the whole lines up to `end`, and moves what is left to the front.
@@ -161,17 +162,17 @@ fn advance(
     stack: &mut [u8],
     scratch: &mut [u64],
     out: &mut [u8],
-) -> io::Result<Held>
+) -> Held
     requires { end ≤ length window.old }
-    ensures { IfOk result (λ h. h.count ≤ end) }
+    ensures { result.count ≤ end }
 {
     let front = past_long(window, end, long);
     let from = front.from;
-    let rest = answer_lines(rt, window, from, end, program, rec, stack, scratch, out)?;
+    let rest = answer_lines(rt, window, from, end, program, rec, stack, scratch, out);
     slide(window, rest, end);
     let long = front.long | (end - rest > LONGEST);
-    let count = kept(rt, end - rest)?;
-    Ok(Held { count, long })
+    let count = kept(rt, end - rest);
+    Held { count, long }
 }
 
 // Reads and answers until the input ends.
@@ -183,16 +184,17 @@ fn serve(
     stack: &mut [u8],
     scratch: &mut [u64],
     out: &mut [u8],
-) -> io::Result<()> {
+) {
     let mut input = rt.reader();
     let mut turns = u64::MAX;
     let mut held = 0;
     let mut long = false;
     while turns > 0 {
         turns -= 1;
-        let n = refill(&mut input, window, held)?;
+        let n = refill(&mut input, window, held);
         if n == 0 {
-            return last(rt, window, held, program, rec, stack, scratch, out);
+            last(rt, window, held, program, rec, stack, scratch, out);
+            return;
         }
         let left = advance(
             rt,
@@ -204,16 +206,15 @@ fn serve(
             stack,
             scratch,
             out,
-        )?;
+        );
         held = left.count;
         long = left.long;
     }
-    Ok(())
 }
 
 // The window takes in the longest line, and a good part of the next. A line's hex has half as many bytes as the line has characters.
 // Scratch memory is enough for every program that passes the tests on form.
-fn main(rt: HostRuntime) -> io::Result<()> {
+fn main(rt: HostRuntime) {
     let mut window = [0u8; 131072];
     let mut program = [0u8; 35000];
     let mut rec = [0u8; 35000];
@@ -228,5 +229,5 @@ fn main(rt: HostRuntime) -> io::Result<()> {
         &mut stack,
         &mut scratch,
         &mut out,
-    )
+    );
 }

@@ -16,9 +16,17 @@ fn is_written(rt: &impl Terminal) -> io::Result<bool> {
     Ok(rights.mode() & 0o200 != 0)
 }
 
+// Opened for both, a pipe that nobody reads any more keeps nobody waiting. A file may be open for writing to who may not read it.
+fn open_status<R: Terminal>(rt: &R) -> io::Result<R::File> {
+    match OpenOptions::new().read(true).append(true).open(rt, STATUS) {
+        Ok(file) => Ok(file),
+        Err(_) => OpenOptions::new().append(true).open(rt, STATUS),
+    }
+}
+
 fn write_status(rt: &impl Terminal, d: u8) -> io::Result<()> {
     if is_written(rt)? {
-        let mut file = OpenOptions::new().append(true).open(rt, STATUS)?;
+        let mut file = open_status(rt)?;
         file.write_all(&[d])?;
     }
     Ok(())

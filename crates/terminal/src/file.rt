@@ -1,5 +1,5 @@
 // The bytes of a file, or of standard input; what is wrong is said on standard error.
-ghost use Rattle.std.specs.Prelude.{◌≡◌, ◌≤◌, length, IfOk};
+ghost use Rattle.std.specs.Prelude.{◌≡◌, ◌+◌, ◌≤◌, length, IfOk};
 
 use crate::ending::{complain, tell_why};
 use crate::host::Terminal;
@@ -51,13 +51,27 @@ fn is_whole(rt: &impl Terminal, path: &[u8], n: usize, room: usize, out: &mut [u
     true
 }
 
-// Reads until the buffer is full or the input ends, and answers how many bytes came.
+// Reads once behind `done`, and answers how many bytes came: none at the end, and where the read fails.
+fn read_more<I: Read>(input: &mut I, file: &mut [u8], done: usize) -> usize
+    requires { done ≤ length file.old }
+    ensures { done + result ≤ length file.old }
+{
+    match input.read(&mut file[done..]) {
+        Ok(n) => n,
+        Err(_) => 0,
+    }
+}
+
+// Reads until the buffer is full or the input ends, and answers how many bytes came. Only a first read that fails is an error.
 fn read_full<I: Read>(input: &mut I, file: &mut [u8]) -> io::Result<usize>
     ensures { IfOk result (λ n. n ≤ length file.old) }
 {
-    let mut done = 0;
+    let mut done = input.read(file)?;
+    if done == 0 {
+        return Ok(0);
+    }
     while done < file.len() {
-        let n = input.read(&mut file[done..])?;
+        let n = read_more(input, file, done);
         if n == 0 {
             return Ok(done);
         }
