@@ -2,13 +2,15 @@
 PREFIX ?= /usr/local
 DESTDIR ?=
 VERSION = 0.7.0
-ARCHIVE = crates/probewarden/out/libprobewarden.a
+ARCHIVE = target/staticlib/libprobewarden.a
 
 all: $(ARCHIVE)
 
 # rt knows by itself what has changed since
 $(ARCHIVE): FORCE
-	cd crates/probewarden && rt lib
+	cd crates/probewarden_c && rt lib
+	mkdir -p $(dir $(ARCHIVE))
+	cp crates/probewarden_c/out/libprobewarden_c.a $(ARCHIVE)
 
 install: $(ARCHIVE)
 	mkdir -p $(DESTDIR)$(PREFIX)/lib/pkgconfig $(DESTDIR)$(PREFIX)/include

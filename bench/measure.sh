@@ -29,15 +29,15 @@ find_tools() {
 
 # the library, as $archive
 make_archive() {
-    archive=${PW_ARCHIVE:-crates/probewarden/out/libprobewarden.a}
+    archive=${PW_ARCHIVE:-target/staticlib/libprobewarden.a}
     if [ -z "${PW_ARCHIVE:-}" ]; then
-        echo 'bench/run: rt lib in crates/probewarden, which proves what has changed' >&2
-        (cd crates/probewarden && rt lib) >"$work/log" 2>&1 || {
+        echo 'bench/run: make, which proves what has changed' >&2
+        make -s >"$work/log" 2>&1 || {
             tail -n 20 "$work/log" >&2
-            stop 'the library was not built: rt lib says why, above'
+            stop 'the library was not built: rt lib, which make calls, says why, above'
         }
     fi
-    [ -f "$archive" ] || stop "the archive $archive is missing: build it by rt lib in crates/probewarden, or unset PW_ARCHIVE"
+    [ -f "$archive" ] || stop "the archive $archive is missing: build it by make, or unset PW_ARCHIVE"
 }
 
 # compile FOLDER FLAG..: the C files by the toolchain's clang with -O2, as objects in the folder

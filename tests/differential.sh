@@ -4,7 +4,7 @@
 set -eu
 cd "$(dirname "$0")/.."
 . tests/x86.sh
-archive=${ARCHIVE:-crates/probewarden/out/libprobewarden.a}
+archive=${ARCHIVE:-target/staticlib/libprobewarden.a}
 work=$(mktemp -d)
 trap 'rm -rf "$work"' EXIT
 passed=0

@@ -1,4 +1,4 @@
-// The functions of the C library, as include/probewarden.h declares them. A slice is a pointer and a length there.
+// The functions of the C library, as include/probewarden.h declares them: crate `probewarden_c` gives them to C.
 ghost use Rattle.std.specs.Prelude.{◌≡◌, [], ◌∷◌, ◌≤◌, length};
 ghost use Rattle.text.specs.Buffer.{Put};
 ghost use Rattle.probewarden.specs.Encoding.{answer_said, ended, headed};
@@ -37,8 +37,7 @@ fn store_four(answer: &mut [u64], a: u64, b: u64, c: u64, d: u64)
 }
 
 // The words of scratch memory that are enough for a program of so many instructions.
-#[unsafe(no_mangle)]
-pub extern "C" fn pw_scratch_words(instructions: u64) -> u64
+pub fn pw_scratch_words(instructions: u64) -> u64
     ensures { result ≡ enough instructions }
 {
     if instructions <= 4096 {
@@ -75,8 +74,7 @@ fn tell(answer: &mut [u64], n: u64, found: Answer) -> u64
 }
 
 // Rules other than 0, and with them a limit of visits, are for loops, which are not taken yet.
-#[unsafe(no_mangle)]
-pub extern "C" fn pw_verify(
+pub fn pw_verify(
     program: &[u8],
     record_len: u64,
     rules: u64,
@@ -97,8 +95,7 @@ pub extern "C" fn pw_verify(
     tell(answer, (program.len() / 8) as u64, found)
 }
 
-#[unsafe(no_mangle)]
-pub extern "C" fn pw_run(
+pub fn pw_run(
     program: &[u8],
     rec: &[u8],
     p: u64,
@@ -131,8 +128,7 @@ pub extern "C" fn pw_run(
 }
 
 // Puts a reason's name and a 0, as far as there is room, and answers how many bytes were put.
-#[unsafe(no_mangle)]
-pub extern "C" fn pw_reason_name(reason: u64, out: &mut [u8]) -> usize
+pub fn pw_reason_name(reason: u64, out: &mut [u8]) -> usize
     ensures { Put out.old 0 (ended (reason_name reason)) out.new result }
 {
     let end = put_reason(out, 0, reason);
@@ -140,8 +136,7 @@ pub extern "C" fn pw_reason_name(reason: u64, out: &mut [u8]) -> usize
 }
 
 // Puts a fault's name and a 0, as far as there is room, and answers how many bytes were put.
-#[unsafe(no_mangle)]
-pub extern "C" fn pw_fault_name(fault: u64, out: &mut [u8]) -> usize
+pub fn pw_fault_name(fault: u64, out: &mut [u8]) -> usize
     ensures { Put out.old 0 (ended (fault_name fault)) out.new result }
 {
     let end = put_fault(out, 0, fault);

@@ -1,4 +1,4 @@
 // The library that a unit links: the functions that it calls from C.
 #![tactic(auto)]
 
-mod exported;
+pub mod exported;

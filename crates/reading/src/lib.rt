@@ -1,4 +1,5 @@
-// The reading of a program out of a file as a C function, so that a test can lend it damaged files by the thousand in one process.
+// The reading of a program out of a file in the shape of a C function, so that a test can lend it damaged files by the thousand in one process:
+// crate `reading_c` gives it to C.
 // Assumes nothing: whatever the bytes are, the answer is one of the codes below.
 #![tactic(auto)]
 
@@ -58,8 +59,7 @@ fn code_of_dump(dump: Dump) -> u64
 
 // Code 0: the program is answer[1] bytes of the file from answer[0] on. Code 1: it is the first answer[0] bytes of `program`. Any other
 // code is a kind of trouble, and the answer is as it was; 2 is an empty file, 99 an answer of fewer than two words.
-#[unsafe(no_mangle)]
-pub extern "C" fn reading_load(
+pub fn reading_load(
     file: &[u8],
     name: &[u8],
     bare: &mut [u8],
