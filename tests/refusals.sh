@@ -16,9 +16,13 @@ named() {
     awk '/^file: /{exit} {print}' "$1" | tr '\n' ' ' | sed -n 's/^\(.*\) must refuse.*/\1/p' | grep -o '`[^`]*`' | tr -d '`'
 }
 
-# The function of a crate's source file that stands at a line or above it.
+# The function of a crate's source file that stands at a line or above it; a function starts at its attributes.
 function_at() {
-    sed -n "1,$2p" "$1" | sed -n 's/^ *\(pub \)\?\(extern "C" \)\?fn \([a-z0-9_]*\).*/\3/p' | tail -n 1
+    awk -v at="$2" '
+        NR == at && /^ *#\[/ { at++ }
+        NR > at { exit }
+        /^ *(pub )?(extern "C" )?fn / { name = $0; sub(/^ *(pub )?(extern "C" )?fn /, "", name); sub(/[^a-z0-9_].*/, "", name) }
+        END { print name }' "$1"
 }
 
 # What a line of the prover says was refused: a theorem by its name, a goal of a function's proof by the function's. refused_at CRATE LINE
