@@ -3,13 +3,13 @@ use mathlib.Core.Path.{◌≡◌, refl, sym, ap, ◌∙◌, subst}
 use mathlib.Core.Bool.{Bool, true, false, cond}
 use mathlib.Core.Logic.{inl, inr, ⊎_elim}
 use mathlib.Core.List.{List}
-use mathlib.Core.Option.{Option, none, some}
 use Prim.Native.Nat.{ℕ, zero, suc, ◌+◌, ◌-◌, ◌*◌, ◌/◌, ◌^◌, ◌≤◌, ◌<◌}
 use native.Mathlib.Nat.{eq-or-lt_of_le, mod-eq_of_lt}
 use native.Mathlib.Omega.{arith}
 use lib.ListN.{length}
 use lib.Dec.{eqb, ltb}
 use borrow.Author.Tests.{eq-eqb, ne_eqb, ltb-true}
+use Rattle.std.specs.Prelude.{Option, Some, None}
 use Rattle.word.proofs.Extend.{extend_below}
 use Rattle.machine.specs.declared.instruction.Operand.{Operand}
 use Rattle.machine.specs.declared.instruction.Operand.TheVariants.{Immediate, Register}
@@ -74,7 +74,7 @@ arrive_grows : (p : Waiting) (j : ℕ) (a : Facts) → Grows p (arrive p j a)
 unfolding arrive
 arrive_grows p j a x c h = go (eqb x j)
   where
-    go : (b : Bool) → Awaits (cond b (some (meeting (p x) a)) (p x)) c
+    go : (b : Bool) → Awaits (cond b (Some (meeting (p x) a)) (p x)) c
     go true = meeting_covers_waiting (p x) a c h
     go false = h
 
@@ -88,10 +88,10 @@ Sent n j o q = (c : Config) → Awaits o c → (j < n) × Awaits (q j) c
 
 pub send_sends : (n j : ℕ) (o : Option Facts) (p : Waiting) (work : ℕ) → Unless (send n j o p work) (λ q. Grows p q × Sent n j o q)
 unfolding send
-send_sends n j none p work = (λ x c h. h, λ c h. absurd h)
-send_sends n j (some a) p work = go (ltb j n) refl
+send_sends n j None p work = (λ x c h. h, λ c h. absurd h)
+send_sends n j (Some a) p work = go (ltb j n) refl
   where
-    go : (b : Bool) → ltb j n ≡ b → Unless (cond b (onward (arrive p j a) (work + 11)) (halted JumpsOut p work)) (λ q. Grows p q × Sent n j (some a) q)
+    go : (b : Bool) → ltb j n ≡ b → Unless (cond b (onward (arrive p j a) (work + 11)) (halted JumpsOut p work)) (λ q. Grows p q × Sent n j (Some a) q)
     go true e = (arrive_grows p j a, λ c h. (ltb-true _ _ e, arrive_awaits p j a c h))
     go false e = tt
 
@@ -148,20 +148,20 @@ module _ (program rec : List ℕ) (record_bytes : Bytes rec) (short : length pro
 
   distribute_moves : (i : ℕ) (p : Waiting) (work : ℕ) (a : Facts) (f : Flow)
       → ((c : Config) → c.index ≡ i → Describes a c → Follows i f (free rec c (instruction program i)))
-      → Unless (distribute (length program / 8) i p work f) (Visited i p (some a))
+      → Unless (distribute (length program / 8) i p work f) (Visited i p (Some a))
   unfolding distribute
   distribute_moves i p work a (refuses reason) h = tt
   distribute_moves i p work a (flows next there target) h =
       go (distribute (length program / 8) i p work (flows next there target)) (distribute_sends (length program / 8) i p work next there target)
     where
-      go : (r : Progress) → Unless r (λ q. Grows p q × Sent (length program / 8) (i + 1) next q × Sent (length program / 8) target there q) → Unless r (Visited i p (some a))
+      go : (r : Progress) → Unless r (λ q. Grows p q × Sent (length program / 8) (i + 1) next q × Sent (length program / 8) target there q) → Unless r (Visited i p (Some a))
       go (halted reason u k) s = tt
       go (onward q k) s = (s.0, λ c e d. moved i next there target q s.1 s.2 (free rec c (instruction program i)) (h c e d))
 
   visit_moves : (i : ℕ) (p : Waiting) (work : ℕ) (w : Option Facts) → Unless (visit program (length rec) i p work w) (Visited i p w)
   unfolding visit
-  visit_moves i p work none = (λ x c h. h, λ c e h. absurd h)
-  visit_moves i p work (some a) =
+  visit_moves i p work None = (λ x c h. h, λ c e h. absurd h)
+  visit_moves i p work (Some a) =
       distribute_moves i p (work + 1) a (apply a (effect (length rec) i a (instruction program i)))
       (λ c e d. subst (λ j. Follows j (apply a (effect (length rec) j a (instruction program i))) (free rec c (instruction program i))) e
       (effect_follows a c d rec record_bytes (instruction program i) (instruction_words program i)))

@@ -2,15 +2,14 @@
 use mathlib.Core.Path.{◌≡◌, refl, sym, ap, ◌∙◌}
 use mathlib.Core.Bool.{Bool, true, false, cond}
 use mathlib.Core.List.{List, [], ◌∷◌}
-use mathlib.Core.Option.{Option, none, some}
 use Prim.Native.Nat.{ℕ, zero, suc, ◌+◌}
 use native.Mathlib.Omega.{arith}
 use lib.ListN.{length, length-set}
 use lib.Dec.{eqb}
+use Rattle.std.specs.Prelude.{Some, None, Option}
 use Rattle.machine.specs.declared.instruction.Operand.{Operand}
 use Rattle.machine.specs.declared.instruction.Operand.TheVariants.{Immediate, Register}
-use Rattle.number.specs.declared.Refined.{Refined}
-use Rattle.number.specs.declared.Refined.TheVariants.{Excluded, Possible}
+use Rattle.number.specs.Refined.{Refined}
 use Rattle.analysis.specs.declared.Value.{Value}
 use Rattle.analysis.specs.declared.Effect.{Effect}
 use Rattle.analysis.specs.declared.Effect.TheVariants.{Refuse, Put, Keep, Fork, Goto, Stop}
@@ -22,8 +21,8 @@ use Rattle.analysis.specs.Promise.{together, flowing, flow, known_from}
 use Rattle.analysis.proofs.Literal.{along_possible, along_excluded}
 
 abbrev pub Eleven : Option Facts → Type 0
-Eleven none = Unit {0}
-Eleven (some a) = length a.registers ≡ 11
+Eleven None = Unit {0}
+Eleven (Some a) = length a.registers ≡ 11
 
 joined_length : (us vs : List Value) → length us ≡ length vs → length (joined_values us vs) ≡ length us
 unfolding joined_values
@@ -33,19 +32,19 @@ joined_length (u ∷ us) (v ∷ vs) e = ap suc (joined_length us vs (omega arith
 
 pub together_eleven : (u v : Option Facts) → Eleven u → Eleven v → Eleven (together u v)
 unfolding together joined_facts
-together_eleven u none g h = g
-together_eleven none (some b) g h = h
-together_eleven (some a) (some b) g h = joined_length a.registers b.registers (g ∙ sym h) ∙ g
+together_eleven u None g h = g
+together_eleven None (Some b) g h = h
+together_eleven (Some a) (Some b) g h = joined_length a.registers b.registers (g ∙ sym h) ∙ g
 
-pub cond_eleven : (t : Bool) (o : Option Facts) → Eleven o → Eleven (cond t o none)
+pub cond_eleven : (t : Bool) (o : Option Facts) → Eleven o → Eleven (cond t o None)
 cond_eleven true o h = h
 cond_eleven false o h = tt
 
 along_eleven : (a : Facts) (d : ℕ) (s : Operand) (r : Refined) → length a.registers ≡ 11 → Eleven (along a d s r)
 unfolding with_operand having
-along_eleven a d s Excluded e = rw (along_excluded a d s) tt
-along_eleven a d (Immediate n) (Possible x y) e = rw (along_possible a d (Immediate n) x y) (simp length-set e)
-along_eleven a d (Register t) (Possible x y) e = rw (along_possible a d (Register t) x y) (simp length-set e)
+along_eleven a d s None e = rw (along_excluded a d s) tt
+along_eleven a d (Immediate n) (Some (x, y)) e = rw (along_possible a d (Immediate n) x y) (simp length-set e)
+along_eleven a d (Register t) (Some (x, y)) e = rw (along_possible a d (Register t) x y) (simp length-set e)
 
 -- what flows out of an index
 abbrev pub ElevenFlow : Flow → Type 0
@@ -69,10 +68,10 @@ flowing_eleven i j (flows next there target) w h g =
 
 flow_eleven : (program : List ℕ) (R i : ℕ) (o : Option Facts) (j : ℕ) (w : Option Facts) → Eleven o → Eleven w → Eleven (flow program R i o j w)
 unfolding flow
-flow_eleven program R i none j w h g = g
-flow_eleven program R i (some a) j w h g = flowing_eleven i j _ w (apply_eleven a (effect R i a (instruction program i)) h) g
+flow_eleven program R i None j w h g = g
+flow_eleven program R i (Some a) j w h g = flowing_eleven i j _ w (apply_eleven a (effect R i a (instruction program i)) h) g
 
 pub known_eleven : (program : List ℕ) (R i j : ℕ) → Eleven (known_from program R i j)
 unfolding known_from start_facts
-known_eleven program R zero j = cond_eleven (eqb j 0) (some start_facts) refl
+known_eleven program R zero j = cond_eleven (eqb j 0) (Some start_facts) refl
 known_eleven program R (suc i) j = flow_eleven program R i (known_from program R i i) j (known_from program R i j) (known_eleven program R i i) (known_eleven program R i j)

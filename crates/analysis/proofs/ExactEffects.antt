@@ -4,10 +4,10 @@ use mathlib.Core.Path.{◌≡◌, refl, sym, ap, ◌∙◌, subst}
 use mathlib.Core.Bool.{Bool, true, false, cond, true≢false}
 use mathlib.Core.Logic.{◌⊎◌, inl, inr}
 use mathlib.Core.List.{List, [], ◌∷◌, map}
-use mathlib.Core.Option.{none, some}
 use Prim.Native.Nat.{ℕ, zero, suc, ◌+◌, ◌%◌, ◌^◌, ◌<◌}
 use lib.ListN.{get_or, set, get_or-map}
 use lib.Dec.{eqb, leb}
+use Rattle.std.specs.Prelude.{Some, None}
 use Rattle.word.specs.Word.{alu, compare, write_bytes}
 use Rattle.word.specs.declared.Operation.{Operation}
 use Rattle.word.specs.declared.Operation.TheVariants.{Add, Sub, Mov}
@@ -20,8 +20,7 @@ use Rattle.machine.specs.declared.instruction.Operand.TheVariants.{Immediate, Re
 use Rattle.machine.specs.declared.instruction.Instruction.{Instruction}
 use Rattle.machine.specs.declared.instruction.Instruction.TheVariants.{Alu, Neg, Jump, Always, Exit, Load, Store, NoInstruction}
 use Rattle.machine.specs.Machine.{bits, bytes}
-use Rattle.number.specs.declared.Refined.{Refined}
-use Rattle.number.specs.declared.Refined.TheVariants.{Excluded, Possible}
+use Rattle.number.specs.Refined.{Refined}
 use Rattle.number.specs.Sharpen.{exact, just}
 use Rattle.number.specs.Computed.{computed, fits}
 use Rattle.number.proofs.Laws.{computed_exact}
@@ -94,8 +93,8 @@ Matches c Keep (goes c') = (c'.index ≡ c.index + 1) × (facts c ≡ facts c')
 Matches c (Fork d s o t target) stuck = ⊥
 Matches c (Fork d s o t target) (ends v) = ⊥
 Matches c (Fork d s o t target) (goes c') =
-    ((c'.index ≡ c.index + 1) × (along (facts c) d s o ≡ some (facts c')) × (along (facts c) d s t ≡ none))
-    ⊎ ((c'.index ≡ target % 2 ^ 64) × (along (facts c) d s o ≡ none) × (along (facts c) d s t ≡ some (facts c')))
+    ((c'.index ≡ c.index + 1) × (along (facts c) d s o ≡ Some (facts c')) × (along (facts c) d s t ≡ None))
+    ⊎ ((c'.index ≡ target % 2 ^ 64) × (along (facts c) d s o ≡ None) × (along (facts c) d s t ≡ Some (facts c')))
 Matches c (Goto target) stuck = ⊥
 Matches c (Goto target) (ends v) = ⊥
 Matches c (Goto target) (goes c') = (c'.index ≡ target % 2 ^ 64) × (facts c ≡ facts c')
@@ -217,12 +216,12 @@ module _ (c : Config) where
   same_operand (Immediate n) y q = refl
   same_operand (Register r) y q = same_register r y q
 
-  along_exact : (d : ℕ) (s : Operand) (x y : ℕ) (o : Refined) → cell_of c d ≡ number x → operand_cell c s ≡ number y → o ≡ Possible (exact x) (exact y)
-      → along (facts c) d s o ≡ some (facts c)
+  along_exact : (d : ℕ) (s : Operand) (x y : ℕ) (o : Refined) → cell_of c d ≡ number x → operand_cell c s ≡ number y → o ≡ Some (exact x, exact y)
+      → along (facts c) d s o ≡ Some (facts c)
   along_exact d s x y o p q e =
-      ap (along (facts c) d s) e ∙ along_possible (facts c) d s (exact x) (exact y) ∙ ap some (ap (λ b. with_operand b s (Plain (exact y))) (same_register d x p) ∙ same_operand s y q)
+      ap (along (facts c) d s) e ∙ along_possible (facts c) d s (exact x) (exact y) ∙ ap Some (ap (λ b. with_operand b s (Plain (exact y))) (same_register d x p) ∙ same_operand s y q)
 
-  not_followed : (d : ℕ) (s : Operand) (o : Refined) → o ≡ Excluded → along (facts c) d s o ≡ none
+  not_followed : (d : ℕ) (s : Operand) (o : Refined) → o ≡ None → along (facts c) d s o ≡ None
   not_followed d s o e = ap (along (facts c) d s) e ∙ along_excluded (facts c) d s
 
   compare_matches : (w : Width) (k : Comparison) (d : ℕ) (s : Operand) (off x y : ℕ) → x < 2 ^ 64 → y < 2 ^ 64 → cell_of c d ≡ number x → operand_cell c s ≡ number y

@@ -4,13 +4,13 @@ use mathlib.Core.Path.{◌≡◌, refl, sym, ap, ◌∙◌, subst}
 use mathlib.Core.Bool.{Bool, true, false, cond, not, ◌&&◌, ◌||◌, true≢false}
 use mathlib.Core.Logic.{inl, inr, ⊎_elim}
 use mathlib.Core.List.{List}
-use mathlib.Core.Option.{Option, none, some}
 use Prim.Native.Nat.{ℕ, zero, suc, ◌+◌, ◌/◌, ◌≤◌, ◌<◌}
 use native.Mathlib.Nat.{eq-or-lt_of_le}
 use native.Mathlib.Omega.{arith}
 use lib.ListN.{length}
 use lib.Dec.{eqb}
 use borrow.Author.Tests.{eqb-true, eqb-false, eq-eqb}
+use Rattle.std.specs.Prelude.{Option, Some, None}
 use Rattle.machine.specs.declared.instruction.Instruction.{Instruction}
 use Rattle.machine.specs.Instruction.{writes}
 use Rattle.machine.specs.Machine.{is_no_instruction, names10, bad_program, bad_record}
@@ -23,17 +23,17 @@ use Rattle.analysis.specs.Judged.{reason_number, or_else, formed}
 use Rattle.analysis.proofs.Annotated.{refused_not_accepted}
 
 abbrev IsSome : Option Reason → Type 0
-IsSome none = ⊥
-IsSome (some reason) = Unit {0}
+IsSome None = ⊥
+IsSome (Some reason) = Unit {0}
 
-some_not_none : (reason : Reason) → some reason ≡ none → ⊥
+some_not_none : (reason : Reason) → Some reason ≡ None → ⊥
 some_not_none reason e = subst IsSome e tt
 
 reason_or : Reason → Option Reason → Reason
-reason_or r none = r
-reason_or r (some s) = s
+reason_or r None = r
+reason_or r (Some s) = s
 
-some_injective : (r s : Reason) → some r ≡ some s → r ≡ s
+some_injective : (r s : Reason) → Some r ≡ Some s → r ≡ s
 unfolding reason_or
 some_injective r s e = ap (reason_or r) e
 
@@ -72,14 +72,14 @@ module _ (n i : ℕ) (ins : Instruction) where
       go true e = rw (q (eqb-true _ _ e)) refl
       go false e = refl
 
-  pub passing_fine : failing n i ins ≡ none → Fine n i ins
+  pub passing_fine : failing n i ins ≡ None → Fine n i ins
   unfolding failing
   passing_fine e =
       go (is_no_instruction ins) refl (names10 (writes ins)) refl (goes_back (off_of ins)) refl (goes_out n i (off_of ins) || (eqb (i + 1) n && not (may_be_last ins))) refl e
     where
       go : (a : Bool) → is_no_instruction ins ≡ a → (b : Bool) → names10 (writes ins) ≡ b → (c : Bool) → goes_back (off_of ins) ≡ c
           → (d : Bool) → (goes_out n i (off_of ins) || (eqb (i + 1) n && not (may_be_last ins))) ≡ d
-          → cond a (some NoCode) (cond b (some WritesR10) (cond c (some JumpsBack) (cond d (some JumpsOut) none))) ≡ none → Fine n i ins
+          → cond a (Some NoCode) (cond b (Some WritesR10) (cond c (Some JumpsBack) (cond d (Some JumpsOut) None))) ≡ None → Fine n i ins
       go true p b q c r d s h = absurd (some_not_none _ h)
       go false p true q c r d s h = absurd (some_not_none _ h)
       go false p false q true r d s h = absurd (some_not_none _ h)
@@ -88,7 +88,7 @@ module _ (n i : ℕ) (ins : Instruction) where
           let o = out_passes _ _ _ refl refl refl s in
           record { instructs = p; keeps_r10 = q; forward = r; stays_in = o.0; ends_well = o.1 }
 
-  pub fine_passing : Fine n i ins → failing n i ins ≡ none
+  pub fine_passing : Fine n i ins → failing n i ins ≡ None
   unfolding failing
   fine_passing f = rw (f.instructs, f.keeps_r10, f.forward, fine_passes f.stays_in f.ends_well) refl
 
@@ -146,17 +146,17 @@ module _ (n i : ℕ) (ins : Instruction) where
   none_below_out a b c LeaksAddress l h = h
   none_below_out a b c DeadCode l h = h
 
-  pub failing_first : (reason : Reason) → failing n i ins ≡ some reason → FailsFirst reason n i ins
+  pub failing_first : (reason : Reason) → failing n i ins ≡ Some reason → FailsFirst reason n i ins
   unfolding failing reason_number
   failing_first reason e =
       go (is_no_instruction ins) refl (names10 (writes ins)) refl (goes_back (off_of ins)) refl (goes_out n i (off_of ins) || (eqb (i + 1) n && not (may_be_last ins))) refl e
     where
-      named : (r : Reason) → some r ≡ some reason → FailsFirst r n i ins → FailsFirst reason n i ins
+      named : (r : Reason) → Some r ≡ Some reason → FailsFirst r n i ins → FailsFirst reason n i ins
       named r p f = subst (λ x. FailsFirst x n i ins) (some_injective r reason p) f
 
       go : (a : Bool) → is_no_instruction ins ≡ a → (b : Bool) → names10 (writes ins) ≡ b → (c : Bool) → goes_back (off_of ins) ≡ c
           → (d : Bool) → (goes_out n i (off_of ins) || (eqb (i + 1) n && not (may_be_last ins))) ≡ d
-          → cond a (some NoCode) (cond b (some WritesR10) (cond c (some JumpsBack) (cond d (some JumpsOut) none))) ≡ some reason → FailsFirst reason n i ins
+          → cond a (Some NoCode) (cond b (Some WritesR10) (cond c (Some JumpsBack) (cond d (Some JumpsOut) None))) ≡ Some reason → FailsFirst reason n i ins
       go true p b q c r d s h = named NoCode h (record { fails = p; no_lower = none_below_no_code })
       go false p true q c r d s h = named WritesR10 h (record { fails = q; no_lower = none_below_writes p })
       go false p false q true r d s h = named JumpsBack h (record { fails = r; no_lower = none_below_back p q })
@@ -176,10 +176,10 @@ accepted_all program (suc k) i e x l m = go (failing (length program / 8) i (ins
   where
     go : (o : Option Reason) → failing (length program / 8) i (instruction program i) ≡ o → or_else i o (formed program k (i + 1)) ≡ Accepted
         → (formed program k (i + 1) ≡ Accepted → (y : ℕ) → i + 1 ≤ y → y < i + 1 + k → InForm program y) → InForm program x
-    go none p h more =
+    go None p h more =
         ⊎_elim (λ (s : i ≡ x). subst (InForm program) s (passing_fine (length program / 8) i (instruction program i) p))
         (λ (s : i < x). more h x (omega arith) (omega arith)) (eq-or-lt_of_le l)
-    go (some reason) p h more = absurd (refused_not_accepted reason i h)
+    go (Some reason) p h more = absurd (refused_not_accepted reason i h)
 
 all_accepted : (program : List ℕ) (k i : ℕ) → ((x : ℕ) → i ≤ x → x < i + k → InForm program x) → formed program k i ≡ Accepted
 unfolding formed or_else
@@ -203,7 +203,7 @@ refused_first program (suc k) i m reason place e =
   where
     go : (o : Option Reason) → failing (length program / 8) i (instruction program i) ≡ o → or_else i o (formed program k (i + 1)) ≡ Refused reason place
         → ((r : Reason) (y : ℕ) → formed program k (i + 1) ≡ Refused r y → Refusal program r (i + 1) y) → Refusal program reason i place
-    go none p h more =
+    go None p h more =
         let w = more reason place h in
         record {
           inside = (omega (arith, w.inside.0), w.inside.1);
@@ -211,7 +211,7 @@ refused_first program (suc k) i m reason place e =
           fine_before = λ x l b. ⊎_elim (λ (s : i ≡ x). subst (InForm program) s (passing_fine (length program / 8) i (instruction program i) p))
               (λ (s : i < x). w.fine_before x (omega arith) b) (eq-or-lt_of_le l);
         }
-    go (some r) p h more =
+    go (Some r) p h more =
         let s = refused_injective r reason i place h in
         subst (λ y. Refusal program reason i y) s.1
         (subst (λ q. Refusal program q i i) s.0
@@ -250,7 +250,7 @@ out_is_tested n i ins (inr e) = rw (eq-eqb (i + 1) n e.0, e.1) (or-true (goes_ou
     or-true true = refl
     or-true false = refl
 
-first_failing : (reason : Reason) (n i : ℕ) (ins : Instruction) → FailsFirst reason n i ins → failing n i ins ≡ some reason
+first_failing : (reason : Reason) (n i : ℕ) (ins : Instruction) → FailsFirst reason n i ins → failing n i ins ≡ Some reason
 unfolding failing reason_number
 first_failing BadLength n i ins f = absurd f.fails
 first_failing LongRecord n i ins f = absurd f.fails

@@ -3,10 +3,10 @@ use mathlib.Core.Path.{◌≡◌, refl, sym, ◌∙◌, subst}
 use mathlib.Core.Bool.{Bool, true, false, ◌||◌, true≢false}
 use mathlib.Core.Logic.{◌⊎◌, inl, inr, ⊎_elim}
 use mathlib.Core.List.{List}
-use mathlib.Core.Option.{some}
 use Prim.Native.Nat.{ℕ, ◌+◌, ◌≤◌, ◌<◌}
 use native.Mathlib.Nat.{eq-or-lt_of_le}
 use native.Mathlib.Omega.{arith}
+use Rattle.std.specs.Prelude.{Some}
 use Rattle.analysis.specs.Form.{instruction, off_of, goes_on, Reached, at_the_start, by_going_on, by_a_jump}
 use Rattle.analysis.specs.Paths.{Targets, no_target, aimed}
 use Rattle.analysis.proofs.Targets.{aimed_keeps, aimed_there, aimed_from}
@@ -16,7 +16,7 @@ pub record Known (program : List ℕ) (i : ℕ) (on : Bool) (t : Targets) : Type
   pub target_reached : (x : ℕ) → t x ≡ true → Reached program x
   pub start_known : i ≡ 0 → on ≡ true
   pub step_known : (j : ℕ) → j + 1 ≡ i → goes_on (instruction program j) ≡ true → on ≡ true
-  pub jump_known : (j off : ℕ) → j < i → off_of (instruction program j) ≡ some off → t (j + 1 + off) ≡ true
+  pub jump_known : (j off : ℕ) → j < i → off_of (instruction program j) ≡ Some off → t (j + 1 + off) ≡ true
 
 pub known_at_start : (program : List ℕ) → Known program 0 true no_target
 unfolding no_target
@@ -59,6 +59,6 @@ module _ (program : List ℕ) (i : ℕ) (on : Bool) (t : Targets) (known : Known
         start_known = λ e. absurd (omega arith);
         step_known = λ j e g. subst (λ x. goes_on (instruction program x) ≡ true) (let s : j ≡ i = omega arith in s) g;
         jump_known = λ j off l e. ⊎_elim (λ (s : j ≡ i). subst (λ x. aimed i (off_of (instruction program i)) t (x + 1 + off) ≡ true) (sym s)
-            (aimed_there i t _ off (subst (λ x. off_of (instruction program x) ≡ some off) s e)))
+            (aimed_there i t _ off (subst (λ x. off_of (instruction program x) ≡ Some off) s e)))
             (λ (s : j < i). aimed_keeps i t _ _ (known.jump_known j off s e)) (eq-or-lt_of_le (let m : j ≤ i = omega arith in m));
       }

@@ -1,11 +1,10 @@
 -- What a definition says, as a sentence: the proofs cite these and not the text, so that a definition that says something else is refused here.
 use mathlib.Core.Path.{◌≡◌, refl}
-use mathlib.Core.Option.{none, some}
 use Prim.Native.Nat.{ℕ, ◌≤◌}
 use native.Mathlib.Omega.{arith}
+use Rattle.std.specs.Prelude.{Some, None}
 use Rattle.machine.specs.declared.instruction.Operand.{Operand}
 use Rattle.number.specs.declared.Number.{Number}
-use Rattle.number.specs.declared.Refined.TheVariants.{Excluded, Possible}
 use Rattle.analysis.specs.declared.Reason.{Reason}
 use Rattle.analysis.specs.declared.Finding.TheVariants.{Refused}
 use Rattle.analysis.specs.declared.Region.{Region}
@@ -16,11 +15,11 @@ use Rattle.analysis.specs.Effects.{limit}
 use Rattle.analysis.specs.Judged.{having, with_operand, along, Waiting, halted, onward, Walk, conclude}
 
 -- a way that is possible is followed with all that was known, but for the two operands; one that is excluded is not followed
-pub along_possible : (a : Facts) (d : ℕ) (s : Operand) (x y : Number) → along a d s (Possible x y) ≡ some (with_operand (having a d (Plain x)) s (Plain y))
+pub along_possible : (a : Facts) (d : ℕ) (s : Operand) (x y : Number) → along a d s (Some (x, y)) ≡ Some (with_operand (having a d (Plain x)) s (Plain y))
 unfolding along
 along_possible a d s x y = refl
 
-pub along_excluded : (a : Facts) (d : ℕ) (s : Operand) → along a d s Excluded ≡ none
+pub along_excluded : (a : Facts) (d : ℕ) (s : Operand) → along a d s None ≡ None
 unfolding along
 along_excluded a d s = refl
 

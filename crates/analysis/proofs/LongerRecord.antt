@@ -3,11 +3,11 @@ use mathlib.Core.Path.{◌≡◌, refl, sym, ap, ap₂, ◌∙◌}
 use mathlib.Core.Bool.{Bool, true, false, cond}
 use mathlib.Core.Logic.{◌⊎◌, inl, inr, ⊎_elim}
 use mathlib.Core.List.{List}
-use mathlib.Core.Option.{Option, none, some}
 use Prim.Native.Nat.{ℕ, zero, suc, ◌/◌, ◌≤◌, ◌<◌}
 use native.Mathlib.Omega.{arith}
 use lib.ListN.{length}
 use borrow.Author.Tests.{le-ltb}
+use Rattle.std.specs.Prelude.{Option, Some, None}
 use Rattle.word.specs.declared.Operation.TheVariants.{Add}
 use Rattle.machine.specs.declared.instruction.Instruction.{Instruction}
 use Rattle.machine.specs.declared.instruction.Instruction.TheVariants.{Alu, Neg, Jump, Always, Exit, Load, Store, NoInstruction}
@@ -60,8 +60,8 @@ effect_longer R S i l a (Load z d s off) = load_longer R S l (bytes z) d off (va
 module _ (program : List ℕ) (R S : ℕ) (l : R ≤ S) (all : (j : ℕ) → j < length program / 8 → Allows program R j) where
   flow_longer : (i : ℕ) → i < length program / 8 → (o : Option Facts) → known_from program R i i ≡ o → (j : ℕ) (w : Option Facts) → flow program S i o j w ≡ flow program R i o j w
   unfolding flow known
-  flow_longer i m none e j w = refl
-  flow_longer i m (some a) e j w =
+  flow_longer i m None e j w = refl
+  flow_longer i m (Some a) e j w =
       ⊎_elim (λ (q : effect S i a (instruction program i) ≡ effect R i a (instruction program i)). ap (λ f. flowing i j (apply a f) w) q)
       (λ (q : (reason : Reason) × (effect R i a (instruction program i) ≡ Refuse reason)). absurd (all i m q.0 (record { facts = a; knows = e; refuses_it = q.1 })))
       (effect_longer R S i l a (instruction program i))
@@ -76,7 +76,7 @@ module _ (program : List ℕ) (R S : ℕ) (l : R ≤ S) (all : (j : ℕ) → j <
   allows_longer : (j : ℕ) → j < length program / 8 → Allows program S j
   unfolding known
   allows_longer j m reason r =
-      let k : known_from program R j j ≡ some r.facts = sym (known_longer j (omega arith) j) ∙ r.knows in
+      let k : known_from program R j j ≡ Some r.facts = sym (known_longer j (omega arith) j) ∙ r.knows in
       ⊎_elim (λ (q : effect S j r.facts (instruction program j) ≡ effect R j r.facts (instruction program j)).
       all j m reason (record { facts = r.facts; knows = k; refuses_it = sym q ∙ r.refuses_it }))
       (λ (q : (s : Reason) × (effect R j r.facts (instruction program j) ≡ Refuse s)). all j m q.0 (record { facts = r.facts; knows = k; refuses_it = q.1 }))

@@ -2,9 +2,9 @@
 use mathlib.Core.Path.{◌≡◌}
 use mathlib.Core.Logic.{◌⊎◌, inl, inr}
 use mathlib.Core.List.{List, [], ◌∷◌}
-use mathlib.Core.Option.{Option, none, some}
 use Prim.Native.Nat.{ℕ, zero, suc}
 use lib.ListN.{length, get_or, set}
+use Rattle.std.specs.Prelude.{Option, Some, None}
 use Rattle.number.specs.declared.Number.{Number}
 use Rattle.number.specs.Meaning.{In}
 use Rattle.number.specs.Sharpen.{joined_number}
@@ -40,8 +40,8 @@ pub record Describes (a : Facts) (c : Config) : Type 0 where
 
 -- what waits at an index; nothing waits for nothing
 abbrev pub Awaits : Option Facts → Config → Type 0
-Awaits none c = ⊥
-Awaits (some a) c = Describes a c
+Awaits None c = ⊥
+Awaits (Some a) c = Describes a c
 
 -- ---- registers
 
@@ -124,12 +124,12 @@ values_right (u ∷ us) (v ∷ vs) (x ∷ xs) h = (value_right u v x h.0, values
 -- what waited is still awaited, and what comes now is
 pub meeting_covers_waiting : (w : Option Facts) (b : Facts) (c : Config) → Awaits w c → Describes (meeting w b) c
 unfolding meeting joined_facts
-meeting_covers_waiting none b c h = absurd h
-meeting_covers_waiting (some a) b c h =
+meeting_covers_waiting None b c h = absurd h
+meeting_covers_waiting (Some a) b c h =
     record { registers = values_left a.registers b.registers c.registers h.registers; stack_size = h.stack_size; stack_bytes = h.stack_bytes }
 
 pub meeting_covers_coming : (w : Option Facts) (b : Facts) (c : Config) → Describes b c → Describes (meeting w b) c
 unfolding meeting joined_facts
-meeting_covers_coming none b c h = h
-meeting_covers_coming (some a) b c h =
+meeting_covers_coming None b c h = h
+meeting_covers_coming (Some a) b c h =
     record { registers = values_right a.registers b.registers c.registers h.registers; stack_size = h.stack_size; stack_bytes = h.stack_bytes }

@@ -3,13 +3,13 @@ use mathlib.Core.Path.{◌≡◌, refl, subst}
 use mathlib.Core.Bool.{Bool, true, false, cond, ◌||◌}
 use mathlib.Core.Logic.{◌⊎◌, inl}
 use mathlib.Core.List.{List, [], ◌∷◌}
-use mathlib.Core.Option.{Option, none, some}
 use Prim.Native.Nat.{ℕ, zero, suc, ◌+◌, ◌-◌, ◌*◌, ◌^◌, ◌≤◌, ◌<◌}
 use native.Mathlib.Omega.{arith}
 use lib.Bits.{or_zero_l, or_zero_r}
 use lib.Dec.{eqb, lit<}
 use lib.ListN.{get_or, set}
 use lib.Pow.{pow_pos}
+use Rattle.std.specs.Prelude.{Some, None, Option}
 use Rattle.word.specs.declared.Operation.{Operation}
 use Rattle.word.specs.declared.Operation.TheVariants.{Add, Sub}
 use Rattle.word.specs.declared.Operation.TheVariants as operation
@@ -23,8 +23,7 @@ use Rattle.machine.specs.declared.instruction.Instruction.TheVariants.{Alu, Neg,
 use Rattle.machine.specs.Machine.{bits, bytes}
 use Rattle.known_bits.specs.Formula.{among}
 use Rattle.number.specs.declared.Number.{Number}
-use Rattle.number.specs.declared.Refined.{Refined}
-use Rattle.number.specs.declared.Refined.TheVariants.{Excluded, Possible}
+use Rattle.number.specs.Refined.{Refined}
 use Rattle.number.specs.Meaning.{NoneEmpty, Left}
 use Rattle.number.specs.Sharpen.{just, exact, everything, loaded, joined_number}
 use Rattle.number.specs.Computed.{computed, fits}
@@ -62,8 +61,8 @@ abbrev OperableFacts : Facts → Type 0
 OperableFacts a = OperableAll a.registers
 
 abbrev OperableComing : Option Facts → Type 0
-OperableComing none = Unit {0}
-OperableComing (some a) = OperableFacts a
+OperableComing None = Unit {0}
+OperableComing (Some a) = OperableFacts a
 
 abbrev OperableFlow : Flow → Type 0
 OperableFlow (refuses reason) = Unit {0}
@@ -116,11 +115,11 @@ values_joined (u ∷ us) (v ∷ vs) h k = (value_joined u v h.0 k.0, values_join
 
 together_operable : (u v : Option Facts) → OperableComing u → OperableComing v → OperableComing (together u v)
 unfolding together joined_facts
-together_operable u none h k = h
-together_operable none (some b) h k = k
-together_operable (some a) (some b) h k = values_joined a.registers b.registers h k
+together_operable u None h k = h
+together_operable None (Some b) h k = k
+together_operable (Some a) (Some b) h k = values_joined a.registers b.registers h k
 
-cond_operable : (t : Bool) (o : Option Facts) → OperableComing o → OperableComing (cond t o none)
+cond_operable : (t : Bool) (o : Option Facts) → OperableComing o → OperableComing (cond t o None)
 cond_operable true o h = h
 cond_operable false o h = tt
 
@@ -237,9 +236,9 @@ module _ (a : Facts) (h : OperableFacts a) where
 
   along_operable : (d : ℕ) (o : Operand) (r : Refined) → Left r (λ x y. Operable x × Operable y) → OperableComing (along a d o r)
   unfolding with_operand having
-  along_operable d o Excluded k = rw (along_excluded a d o) tt
-  along_operable d (Immediate n) (Possible x y) k = rw (along_possible a d (Immediate n) x y) (operable_set a.registers d (Plain x) h k.0)
-  along_operable d (Register r) (Possible x y) k =
+  along_operable d o None k = rw (along_excluded a d o) tt
+  along_operable d (Immediate n) (Some (x, y)) k = rw (along_possible a d (Immediate n) x y) (operable_set a.registers d (Plain x) h k.0)
+  along_operable d (Register r) (Some (x, y)) k =
       rw (along_possible a d (Register r) x y)
       (operable_set (set a.registers d (Plain x)) r (Plain y) (operable_set a.registers d (Plain x) h k.0) k.1)
 
@@ -324,23 +323,23 @@ unfolding start_facts
 start_operable = (tt, (exact_operable 0 (lit< tt), (tt, (tt, (tt, (tt, (tt, (tt, (tt, (tt, (exact_operable 512 (lit< tt), tt)))))))))))
 
 module _ (program : List ℕ) (R n : ℕ)
-    (results : (j : ℕ) → j < n → (a : Facts) → known program R j ≡ some a → Calculating SomeResult a (instruction program j)) where
+    (results : (j : ℕ) → j < n → (a : Facts) → known program R j ≡ Some a → Calculating SomeResult a (instruction program j)) where
   flow_operable : (i : ℕ) → i < n → (o : Option Facts) → known_from program R i i ≡ o → OperableComing o → (j : ℕ) (w : Option Facts)
       → OperableComing w
       → OperableComing (flow program R i o j w)
   unfolding flow known
-  flow_operable i l none e k j w h = h
-  flow_operable i l (some a) e k j w h =
+  flow_operable i l None e k j w h = h
+  flow_operable i l (Some a) e k j w h =
       flowing_operable i j _ w (effect_operable a k R i (instruction program i) (instruction_words program i) (results i l a e)) h
 
   known_operable : (i : ℕ) → i ≤ n → (j : ℕ) → OperableComing (known_from program R i j)
   unfolding known_from
-  known_operable zero l j = cond_operable (eqb j 0) (some start_facts) start_operable
+  known_operable zero l j = cond_operable (eqb j 0) (Some start_facts) start_operable
   known_operable (suc i) l j =
       flow_operable i (omega arith) _ refl (known_operable i (omega arith) i) j _ (known_operable i (omega arith) j)
 
   -- no range is empty that a program calculates with, unless a result is
-  pub none_empty_unless_a_result_is : (j : ℕ) → j < n → (a : Facts) → known program R j ≡ some a
+  pub none_empty_unless_a_result_is : (j : ℕ) → j < n → (a : Facts) → known program R j ≡ Some a
       → Calculating NoneEmpty a (instruction program j)
   unfolding known
   none_empty_unless_a_result_is j l a e =

@@ -4,13 +4,13 @@ use mathlib.Core.Path.{◌≡◌, refl, sym, ap, ◌∙◌, subst}
 use mathlib.Core.Bool.{Bool, true, false, cond, ◌||◌, true≢false}
 use mathlib.Core.Logic.{⊎_elim}
 use mathlib.Core.List.{List}
-use mathlib.Core.Option.{Option, none, some}
 use Prim.Native.Nat.{ℕ, zero, suc, ◌+◌, ◌*◌, ◌/◌, ◌%◌, ◌≤◌, ◌<◌}
 use native.Mathlib.Nat.{eq-or-lt_of_le}
 use native.Mathlib.Omega.{arith}
 use lib.ListN.{length}
 use lib.Dec.{eqb}
 use borrow.Author.Tests.{leb-false, lt-ltb, eqb-true, eqb-false, not-false}
+use Rattle.std.specs.Prelude.{Option, Some, None}
 use Rattle.word.specs.declared.Operation.{Operation}
 use Rattle.word.specs.declared.Operation.TheVariants as operation
 use Rattle.word.specs.declared.Comparison.{Comparison}
@@ -189,8 +189,8 @@ Goes (onward p work) = Unit {0}
 
 pub send_goes : (n j : ℕ) (o : Option Facts) (p : Waiting) (work : ℕ) → j < n → Goes (send n j o p work)
 unfolding send
-send_goes n j none p work l = tt
-send_goes n j (some a) p work l = rw (lt-ltb j n l) tt
+send_goes n j None p work l = tt
+send_goes n j (Some a) p work l = rw (lt-ltb j n l) tt
 
 distribute_goes : (n i : ℕ) (p : Waiting) (work : ℕ) (next there : Option Facts) (target : ℕ)
     → Goes (send n (i + 1) next p work) → ((q : Waiting) (k : ℕ) → Goes (send n target there q k)) → Goes (distribute n i p work (flows next there target))
@@ -201,7 +201,7 @@ distribute_goes n i p work next there target h k = go (send n (i + 1) next p wor
     go (halted reason q m) g = absurd g
     go (onward q m) g = k q m
 
-none_goes : (n j : ℕ) (p : Waiting) (work : ℕ) → Goes (send n j none p work)
+none_goes : (n j : ℕ) (p : Waiting) (work : ℕ) → Goes (send n j None p work)
 unfolding send
 none_goes n j p work = tt
 
@@ -217,12 +217,12 @@ HaltedBy n i p work a Stop = Goes (distribute n i p work (apply a Stop))
 halted_by : (n i : ℕ) (p : Waiting) (work : ℕ) (a : Facts) (e : Effect) → Lawful n i e → HaltedBy n i p work a e
 unfolding apply distribute
 halted_by n i p work a (Refuse reason) h = refl
-halted_by n i p work a (Put d v) h = distribute_goes n i p work _ none 0 (send_goes n (i + 1) _ p work h) (none_goes n 0)
-halted_by n i p work a Keep h = distribute_goes n i p work _ none 0 (send_goes n (i + 1) _ p work h) (none_goes n 0)
+halted_by n i p work a (Put d v) h = distribute_goes n i p work _ None 0 (send_goes n (i + 1) _ p work h) (none_goes n 0)
+halted_by n i p work a Keep h = distribute_goes n i p work _ None 0 (send_goes n (i + 1) _ p work h) (none_goes n 0)
 halted_by n i p work a (Fork d s o t target) h =
     distribute_goes n i p work (along a d s o) (along a d s t) target (send_goes n (i + 1) (along a d s o) p work h.0) (λ q k. send_goes n target (along a d s t) q k h.1)
-halted_by n i p work a (Goto target) h = distribute_goes n i p work none (some a) target (none_goes n (i + 1) p work) (λ q k. send_goes n target (some a) q k h.0)
-halted_by n i p work a Stop h = distribute_goes n i p work none none 0 (none_goes n (i + 1) p work) (none_goes n 0)
+halted_by n i p work a (Goto target) h = distribute_goes n i p work None (Some a) target (none_goes n (i + 1) p work) (λ q k. send_goes n target (Some a) q k h.0)
+halted_by n i p work a Stop h = distribute_goes n i p work None None 0 (none_goes n (i + 1) p work) (none_goes n 0)
 
 -- ---- the refusal of a pass
 
@@ -230,7 +230,7 @@ halted_by n i p work a Stop h = distribute_goes n i p work none none 0 (none_goe
 pub record RefusedAt (program : List ℕ) (R : ℕ) (walk : Walk) (reason : Reason) (place : ℕ) : Type 0 where
   pub inside : place < length program / 8
   pub facts : Facts
-  pub wait : walk.waiting place ≡ some facts
+  pub wait : walk.waiting place ≡ Some facts
   pub refused : effect R place facts (instruction program place) ≡ Refuse reason
 
 -- a program has an instruction
@@ -247,21 +247,21 @@ some_instruction program R form = length_some (length program) form.orderly.good
 
 module _ (program : List ℕ) (R : ℕ) (form : HasForm program R) where
   abbrev pub Tells : ℕ → Waiting → Option Facts → Progress → Type 0
-  Tells i p w (halted reason q work) = (a : Facts) × (w ≡ some a) × (effect R i a (instruction program i) ≡ Refuse reason) × (q ≡ p)
+  Tells i p w (halted reason q work) = (a : Facts) × (w ≡ Some a) × (effect R i a (instruction program i) ≡ Refuse reason) × (q ≡ p)
   Tells i p w (onward q work) = Unit {0}
 
   pub visit_tells : (i : ℕ) → i < length program / 8 → (p : Waiting) (work : ℕ) (w : Option Facts) → Tells i p w (visit program R i p work w)
   unfolding visit
-  visit_tells i l p work none = tt
-  visit_tells i l p work (some a) =
+  visit_tells i l p work None = tt
+  visit_tells i l p work (Some a) =
       go (effect R i a (instruction program i)) refl (halted_by (length program / 8) i p (work + 1) a (effect R i a (instruction program i)) (effect_lawful (length program / 8) i R a (instruction program i) l (form.orderly.fine i l)))
     where
-      goes_tells : (r : Progress) → Goes r → Tells i p (some a) r
+      goes_tells : (r : Progress) → Goes r → Tells i p (Some a) r
       goes_tells (halted reason q k) g = absurd g
       goes_tells (onward q k) g = tt
 
       go : (e : Effect) → effect R i a (instruction program i) ≡ e → HaltedBy (length program / 8) i p (work + 1) a e
-          → Tells i p (some a) (distribute (length program / 8) i p (work + 1) (apply a e))
+          → Tells i p (Some a) (distribute (length program / 8) i p (work + 1) (apply a e))
       go (Refuse reason) q h = rw h (a, refl, q, refl)
       go (Put d v) q h = goes_tells (distribute (length program / 8) i p (work + 1) (apply a (Put d v))) h
       go Keep q h = goes_tells (distribute (length program / 8) i p (work + 1) (apply a Keep)) h
@@ -292,10 +292,10 @@ module _ (program : List ℕ) (R : ℕ) (form : HasForm program R) where
 
   pub followed_refused : (reason : Reason) (place : ℕ) → (followed program R).finding ≡ Refused reason place → RefusedAt program R (followed program R) reason place
   unfolding followed conclude
-  followed_refused reason place e = go (send (length program / 8) 0 (some start_facts) nobody (2 * (length program / 8))) (λ w. start_goes w) e
+  followed_refused reason place e = go (send (length program / 8) 0 (Some start_facts) nobody (2 * (length program / 8))) (λ w. start_goes w) e
     where
-      start_goes : 0 < length program / 8 → Goes (send (length program / 8) 0 (some start_facts) nobody (2 * (length program / 8)))
-      start_goes l = send_goes (length program / 8) 0 (some start_facts) nobody (2 * (length program / 8)) l
+      start_goes : 0 < length program / 8 → Goes (send (length program / 8) 0 (Some start_facts) nobody (2 * (length program / 8)))
+      start_goes l = send_goes (length program / 8) 0 (Some start_facts) nobody (2 * (length program / 8)) l
 
       go : (r : Progress) → (0 < length program / 8 → Goes r) → (conclude r 0 (pass program R (length program / 8) 0)).finding ≡ Refused reason place
           → RefusedAt program R (conclude r 0 (pass program R (length program / 8) 0)) reason place

@@ -8,6 +8,7 @@ use lib.ListN.{length, get_or, length-set}
 use lib.Seq.{get_or-set_same, get_or-set_other}
 use lib.Dec.{eqb}
 use borrow.Author.Tests.{leb-true, le-leb}
+use Rattle.std.specs.Prelude.{Some}
 use Rattle.word.specs.declared.Operation.{Operation}
 use Rattle.word.specs.declared.Operation.TheVariants.{Add, Mov}
 use Rattle.machine.specs.declared.instruction.Width.{Width}
@@ -17,7 +18,6 @@ use Rattle.machine.specs.declared.instruction.Size.{Size}
 use Rattle.machine.specs.declared.instruction.Instruction.TheVariants.{Alu}
 use Rattle.machine.specs.Machine.{bits, bytes}
 use Rattle.number.specs.declared.Number.{Number}
-use Rattle.number.specs.declared.Refined.TheVariants.{Possible}
 use Rattle.number.specs.Sharpen.{exact, joined_number}
 use Rattle.number.specs.Computed.{computed}
 use Rattle.number.proofs.Laws.{fits_exactly, fits_not, all_demanded}
@@ -148,7 +148,7 @@ registers_told a =
 
 -- ---- ways
 -- a way out of a jump that is possible
-way_out : (a : Facts) (d : ℕ) (s : Operand) (x y : Number) → WayOut a d s x y (along a d s (Possible x y))
+way_out : (a : Facts) (d : ℕ) (s : Operand) (x y : Number) → WayOut a d s x y (along a d s (Some (x, y)))
 unfolding with_operand having
 way_out a d (Immediate n) x y = record {
   facts = having a d (Plain x);

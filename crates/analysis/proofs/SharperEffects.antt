@@ -3,12 +3,12 @@
 use mathlib.Core.Path.{◌≡◌, refl}
 use mathlib.Core.Bool.{Bool, true, false, cond, ◌||◌}
 use mathlib.Core.Logic.{◌⊎◌, inl}
-use mathlib.Core.Option.{Option, none, some}
 use Prim.Native.Nat.{ℕ, ◌+◌, ◌-◌, ◌*◌, ◌^◌, ◌≤◌, ◌<◌}
 use native.Mathlib.Nat.{le_trans}
 use native.Mathlib.Omega.{arith}
 use lib.Pow.{pow_pos, pow_mono}
 use lib.Dec.{eqb}
+use Rattle.std.specs.Prelude.{Some, None, Option}
 use Rattle.word.specs.declared.Operation.{Operation}
 use Rattle.word.specs.declared.Operation.TheVariants.{Add, Sub}
 use Rattle.word.specs.declared.Operation.TheVariants as operation
@@ -26,8 +26,7 @@ use Rattle.known_bits.specs.KnownBits.{Well}
 use Rattle.known_bits.proofs.Covering.{ones_cover_all_below}
 use Rattle.known_bits.proofs.Inside.{among_inside}
 use Rattle.number.specs.declared.Number.{Number}
-use Rattle.number.specs.declared.Refined.{Refined}
-use Rattle.number.specs.declared.Refined.TheVariants.{Excluded, Possible}
+use Rattle.number.specs.Refined.{Refined}
 use Rattle.number.specs.Meaning.{In, Narrower, NoneEmpty, Left, LeavesNoMore}
 use Rattle.number.specs.Sharpen.{exact, loaded, everything}
 use Rattle.number.specs.Computed.{computed, fits}
@@ -103,9 +102,9 @@ told_in_order Long = refined_in_order
 told_in_order Short = refined32_in_order
 
 there : (o' o : Option Facts) (target : ℕ) → SharperComing o' o → SharperThere o' target o target
-there none o target h = tt
-there (some a') none target h = h
-there (some a') (some a) target h = (h, refl)
+there None o target h = tt
+there (Some a') None target h = h
+there (Some a') (Some a) target h = (h, refl)
 
 module _ (a' a : Facts) (h : SharperFacts a' a) where
   -- ---- what is read, and what is written
@@ -224,9 +223,9 @@ module _ (a' a : Facts) (h : SharperFacts a' a) where
   -- ---- jumps
   leaves_sharper : (r' r : Refined) → LeavesNoMore r' r → Left r' Forms → Left r Forms → (d : ℕ) (s : Operand)
       → SharperComing (along a' d s r') (along a d s r)
-  leaves_sharper Excluded r l f' f d s = rw (along_excluded a' d s) tt
-  leaves_sharper (Possible x' y') Excluded l f' f d s = absurd l
-  leaves_sharper (Possible x' y') (Possible x y) l f' f d s =
+  leaves_sharper None r l f' f d s = rw (along_excluded a' d s) tt
+  leaves_sharper (Some (x', y')) None l f' f d s = absurd l
+  leaves_sharper (Some (x', y')) (Some (x, y)) l f' f d s =
       rw (along_possible a' d s x' y', along_possible a d s x y)
       (with_operand_sharper (having a' d (Plain x')) (having a d (Plain x))
       (having_sharper a' a h d (Plain x') (Plain x) (record { narrower = l.0; sharper_form = f'.0; form = f.0 })) s (Plain y') (Plain y)

@@ -3,12 +3,12 @@
 use mathlib.Core.Path.{◌≡◌, refl, sym, subst}
 use mathlib.Core.Bool.{Bool, true, false, cond}
 use mathlib.Core.List.{List}
-use mathlib.Core.Option.{Option, none, some}
 use Prim.Native.Nat.{ℕ, zero, suc, ◌+◌, ◌/◌, ◌≤◌, ◌<◌}
 use native.Mathlib.Decide.{ℕ_discrete}
 use native.Mathlib.Omega.{arith}
 use lib.ListN.{length}
 use lib.Dec.{eqb}
+use Rattle.std.specs.Prelude.{Option, Some, None}
 use Rattle.machine.specs.declared.instruction.Instruction.{Instruction}
 use Rattle.number.specs.Meaning.{NoneEmpty}
 use Rattle.analysis.specs.declared.Reason.{Reason}
@@ -29,19 +29,19 @@ use Rattle.analysis.proofs.SharperValues.{together_sharper, start_sharper}
 use Rattle.analysis.proofs.Whole.{accepted_exactly}
 
 -- ---- what flows to an index
-cond_sharper : (t : Bool) (o' o : Option Facts) → SharperComing o' o → SharperComing (cond t o' none) (cond t o none)
+cond_sharper : (t : Bool) (o' o : Option Facts) → SharperComing o' o → SharperComing (cond t o' None) (cond t o None)
 cond_sharper true o' o h = h
 cond_sharper false o' o h = tt
 
 there_sharper : (j t' t : ℕ) (o' o : Option Facts) → SharperThere o' t' o t
-    → SharperComing (cond (eqb j t') o' none) (cond (eqb j t) o none)
-there_sharper j t' t none o h = none_first (eqb j t') (cond (eqb j t) o none)
+    → SharperComing (cond (eqb j t') o' None) (cond (eqb j t) o None)
+there_sharper j t' t None o h = none_first (eqb j t') (cond (eqb j t) o None)
   where
-    none_first : (b : Bool) (o : Option Facts) → SharperComing (cond b none none) o
+    none_first : (b : Bool) (o : Option Facts) → SharperComing (cond b None None) o
     none_first true o = tt
     none_first false o = tt
-there_sharper j t' t (some a') none h = absurd h
-there_sharper j t' t (some a') (some a) h = rw h.1 (cond_sharper (eqb j t) (some a') (some a) h.0)
+there_sharper j t' t (Some a') None h = absurd h
+there_sharper j t' t (Some a') (Some a) h = rw h.1 (cond_sharper (eqb j t) (Some a') (Some a) h.0)
 
 -- joined to what was known, and what was known is not forgotten
 module _ (i j : ℕ) (w' w : Option Facts) (ew : Eleven w) (h : SharperComing w' w) where
@@ -59,11 +59,11 @@ module _ (i j : ℕ) (w' w : Option Facts) (ew : Eleven w) (h : SharperComing w'
   unfolding flowing together
   flowing_keeps (refuses reason) e = h
   flowing_keeps (flows next there target) e =
-      let n = cond (eqb j (i + 1)) next none in
+      let n = cond (eqb j (i + 1)) next None in
       let en = cond_eleven (eqb j (i + 1)) next e.0 in
-      together_sharper w' none (together w n) (cond (eqb j target) there none) (together_eleven w n ew en)
+      together_sharper w' None (together w n) (cond (eqb j target) there None) (together_eleven w n ew en)
       (cond_eleven (eqb j target) there e.1)
-      (together_sharper w' none w n ew en h tt) tt
+      (together_sharper w' None w n ew en h tt) tt
 
 -- ---- two programs
 apply_refuses : (a : Facts) (e : Effect) (reason : Reason) → apply a e ≡ refuses reason → e ≡ Refuse reason
@@ -77,8 +77,8 @@ apply_refuses a Stop reason q = absurd (let z : ◌≡◌ {A = ℕ} 0 1 = cc in 
 
 module _ (old new : List ℕ) (R S n : ℕ) (allowed : (j : ℕ) → j < n → Allows old R j)
     (more : (i : ℕ) → i < n → TellsMore R S i (instruction new i) (instruction old i))
-    (fine : (j : ℕ) → j < n → (a : Facts) → known new S j ≡ some a → Calculating NoneEmpty a (instruction new j)) where
-  not_refused : (i : ℕ) → i < n → (a : Facts) → known_from old R i i ≡ some a → (reason : Reason)
+    (fine : (j : ℕ) → j < n → (a : Facts) → known new S j ≡ Some a → Calculating NoneEmpty a (instruction new j)) where
+  not_refused : (i : ℕ) → i < n → (a : Facts) → known_from old R i i ≡ Some a → (reason : Reason)
       → apply a (effect R i a (instruction old i)) ≡ refuses reason → ⊥
   unfolding known
   not_refused i l a e reason q = allowed i l reason (record { facts = a; knows = e; refuses_it = apply_refuses a _ reason q })
@@ -87,18 +87,18 @@ module _ (old new : List ℕ) (R S n : ℕ) (allowed : (j : ℕ) → j < n → A
       → (j : ℕ) (w' w : Option Facts) → Eleven w
       → SharperComing w' w → SharperComing (flow new S i o' j w') (flow old R i o j w)
   unfolding flow known
-  flow_sharper i l none none p q s j w' w ew h = h
-  flow_sharper i l none (some a) p q s j w' w ew h =
+  flow_sharper i l None None p q s j w' w ew h = h
+  flow_sharper i l None (Some a) p q s j w' w ew h =
       flowing_keeps i j w' w ew h _ (apply_eleven a (effect R i a (instruction old i)) (subst Eleven q (known_eleven old R i i)))
-  flow_sharper i l (some a') none p q s j w' w ew h = absurd s
-  flow_sharper i l (some a') (some a) p q s j w' w ew h =
+  flow_sharper i l (Some a') None p q s j w' w ew h = absurd s
+  flow_sharper i l (Some a') (Some a) p q s j w' w ew h =
       flowing_sharper i j w' w ew h _ _ (apply_eleven a (effect R i a (instruction old i)) (subst Eleven q (known_eleven old R i i)))
       (more i l a' a s (fine i l a' p)) (not_refused i l a q)
 
   -- at each index no less is known
   pub known_sharper : (i : ℕ) → i ≤ n → (j : ℕ) → SharperComing (known_from new S i j) (known_from old R i j)
   unfolding known_from
-  known_sharper zero l j = cond_sharper (eqb j 0) (some start_facts) (some start_facts) start_sharper
+  known_sharper zero l j = cond_sharper (eqb j 0) (Some start_facts) (Some start_facts) start_sharper
   known_sharper (suc i) l j =
       flow_sharper i (omega arith) _ _ refl refl (known_sharper i (omega arith) i) j _ _ (known_eleven old R i j)
       (known_sharper i (omega arith) j)
@@ -109,9 +109,9 @@ module _ (old new : List ℕ) (R S n : ℕ) (allowed : (j : ℕ) → j < n → A
   allows_sharper j l reason r =
       go (known_from old R j j) refl (subst (λ o. SharperComing o (known_from old R j j)) r.knows (known_sharper j (omega arith) j))
     where
-      go : (o : Option Facts) → known_from old R j j ≡ o → SharperComing (some r.facts) o → ⊥
-      go none q s = s
-      go (some a) q s =
+      go : (o : Option Facts) → known_from old R j j ≡ o → SharperComing (Some r.facts) o → ⊥
+      go None q s = s
+      go (Some a) q s =
           contradiction (apply a (effect R j a (instruction old j))) (not_refused j l a q)
           (subst (λ e. SharperFlow (apply r.facts e) (apply a (effect R j a (instruction old j)))) r.refuses_it
           (more j l r.facts a s (fine j l r.facts r.knows)))
@@ -123,7 +123,7 @@ module _ (old new : List ℕ) (R S n : ℕ) (allowed : (j : ℕ) → j < n → A
 -- a program of good form that tells no less is accepted, unless a result that it calculates is empty
 pub accepted_with_more_told : (old new : List ℕ) (R S : ℕ) → (judged old R).finding ≡ Accepted → HasForm new S → length new ≡ length old
     → ((i : ℕ) → i < length new / 8 → TellsMore R S i (instruction new i) (instruction old i))
-    → ((j : ℕ) → j < length new / 8 → (a : Facts) → known new S j ≡ some a → Calculating SomeResult a (instruction new j))
+    → ((j : ℕ) → j < length new / 8 → (a : Facts) → known new S j ≡ Some a → Calculating SomeResult a (instruction new j))
     → (judged new S).finding ≡ Accepted
 accepted_with_more_told old new R S e form same more results =
     let n = length new / 8 in
@@ -148,12 +148,12 @@ module _ (old new : List ℕ) (R k : ℕ) (e : (judged old R).finding ≡ Accept
           (same_tells_more R R i (omega arith) (instruction old i) (instruction_words old i))
 
   pub accepted_with_one_that_tells_more :
-      ((j : ℕ) → j < length new / 8 → (a : Facts) → known new R j ≡ some a → Calculating SomeResult a (instruction new j))
+      ((j : ℕ) → j < length new / 8 → (a : Facts) → known new R j ≡ Some a → Calculating SomeResult a (instruction new j))
       → (judged new R).finding ≡ Accepted
   accepted_with_one_that_tells_more = accepted_with_more_told old new R R e form same (λ i l. each_tells_more i)
 
   -- and where what is known at each index is possible
-  pub accepted_where_possible : ((j : ℕ) → j < length new / 8 → (a : Facts) → known new R j ≡ some a → PossibleFacts a)
+  pub accepted_where_possible : ((j : ℕ) → j < length new / 8 → (a : Facts) → known new R j ≡ Some a → PossibleFacts a)
       → (judged new R).finding ≡ Accepted
   accepted_where_possible possible =
       accepted_with_one_that_tells_more (λ j l a q. possible_has_results a (instruction new j) (instruction_words new j) (possible j l a q))

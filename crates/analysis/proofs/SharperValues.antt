@@ -1,11 +1,11 @@
 -- What is known of registers, in the order of what is known: joins, and what is written or learnt.
 use mathlib.Core.Path.{◌≡◌, refl, sym, ◌∙◌}
 use mathlib.Core.List.{List, [], ◌∷◌}
-use mathlib.Core.Option.{Option, none, some}
 use Prim.Native.Nat.{ℕ, zero, suc, ◌^◌, ◌<◌}
 use native.Mathlib.Omega.{arith}
 use lib.Dec.{lit<}
 use lib.ListN.{length, get_or, set}
+use Rattle.std.specs.Prelude.{Option, Some, None}
 use Rattle.machine.specs.declared.instruction.Operand.{Operand}
 use Rattle.machine.specs.declared.instruction.Operand.TheVariants.{Immediate, Register}
 use Rattle.known_bits.specs.KnownBits.{Well}
@@ -282,18 +282,18 @@ module _ (w' o' w o : Option Facts) (ew : Eleven w) (eo : Eleven o) where
     where
       go : (w' o' w o : Option Facts) → Eleven w → Eleven o → SharperComing w' w → SharperComing o' o
           → SharperComing (together w' o') (together w o)
-      go none none w o ew eo h k = tt
-      go none (some b') w none ew eo h k = absurd k
-      go none (some b') none (some b) ew eo h k = k
-      go none (some b') (some a) (some b) ew eo h k =
+      go None None w o ew eo h k = tt
+      go None (Some b') w None ew eo h k = absurd k
+      go None (Some b') None (Some b) ew eo h k = k
+      go None (Some b') (Some a) (Some b) ew eo h k =
           record { registers = sharper_right b'.registers a.registers b.registers (ew ∙ sym eo) k.registers }
-      go (some a') none none o ew eo h k = absurd h
-      go (some a') none (some a) none ew eo h k = h
-      go (some a') none (some a) (some b) ew eo h k =
+      go (Some a') None None o ew eo h k = absurd h
+      go (Some a') None (Some a) None ew eo h k = h
+      go (Some a') None (Some a) (Some b) ew eo h k =
           record { registers = sharper_left a'.registers a.registers b.registers (ew ∙ sym eo) h.registers }
-      go (some a') (some b') none o ew eo h k = absurd h
-      go (some a') (some b') (some a) none ew eo h k = absurd k
-      go (some a') (some b') (some a) (some b) ew eo h k =
+      go (Some a') (Some b') None o ew eo h k = absurd h
+      go (Some a') (Some b') (Some a) None ew eo h k = absurd k
+      go (Some a') (Some b') (Some a) (Some b) ew eo h k =
           record { registers = sharper_joined a'.registers b'.registers a.registers b.registers h.registers k.registers }
 
 -- at the start

@@ -1,4 +1,5 @@
 -- The machine does under every layout what the layout-free machine does, until that is stuck.
+use Rattle.std.proofs.Common.{ℕ, Some}
 use mathlib.Core.Path.{◌≡◌, refl, sym, ap, ap₂, ◌∙◌}
 use mathlib.Core.Bool.{Bool, true, false, cond, ◌&&◌, ◌||◌}
 use mathlib.Core.Logic.{◌⊎◌, inl, inr, ⊎_elim}
@@ -23,7 +24,6 @@ use Rattle.machine.specs.declared.instruction.Operand.{Operand}
 use Rattle.machine.specs.declared.instruction.Operand.TheVariants.{Immediate, Register}
 use Rattle.machine.specs.declared.instruction.Instruction.{Instruction}
 use Rattle.machine.specs.declared.instruction.Instruction.TheVariants.{Alu, Neg, Jump, Always, Exit, Load, Store, NoInstruction}
-use Rattle.machine.specs.declared.memory.Loaded.TheVariants.{Value}
 use Rattle.machine.specs.Instruction.{reads_operand, reads_dst, reads, writes}
 use Rattle.machine.specs.Machine.{World, Content, Unset, Holds, State, After, content, held, value, operand_value, put, jumped, bits, bytes, address, within, after_load, after_store, effect, is_no_instruction, names10, is_unset, any_unset, obey, start}
 use Rattle.machine.specs.Machine as machine
@@ -268,16 +268,16 @@ module _ (w : World) where
         go z (no l) = inr (omega arith)
 
     found : (c : Config) (z : Size) (p : Region) (e : ℕ) → length c.stack ≡ 512 → e + bytes z ≤ limit (length w.rec) p
-        → machine.loaded w c.stack ((base p + e) % 2 ^ 64) z ≡ Value (read_bytes (bytes z) (region w.rec c p) e)
+        → machine.loaded w c.stack ((base p + e) % 2 ^ 64) z ≡ Some (read_bytes (bytes z) (region w.rec c p) e)
     unfolding machine.loaded limit region
     found c z Record e l h =
         rw (mod-eq_of_lt {n = w.P + e} {m = 2 ^ 64} (omega arith))
         (rw (within_yes w.P (length w.rec) (w.P + e) (bytes z) (omega arith) (omega arith))
-        (ap (λ i. Value (read_bytes (bytes z) w.rec i)) (omega arith)))
+        (ap (λ i. Some (read_bytes (bytes z) w.rec i)) (omega arith)))
     found c z Stack e l h =
         rw (mod-eq_of_lt {n = w.S + e} {m = 2 ^ 64} (omega arith))
         (rw (outside_record e (bytes z) (some_bytes z) h, within_yes w.S (length c.stack) (w.S + e) (bytes z) (omega arith) (omega arith))
-        (ap (λ i. Value (read_bytes (bytes z) c.stack i)) (omega arith)))
+        (ap (λ i. Some (read_bytes (bytes z) c.stack i)) (omega arith)))
 
     load_obeyed : (c : Config) (z : Size) (d s off : ℕ) (p : Region) (o : ℕ) → cell_of c s ≡ offset p o → eqb d 10 ≡ false
         → obey w (concrete c) (Load z d s off) ≡ after_load (concrete c) d (machine.loaded w c.stack ((base p + alu 64 Add o off) % 2 ^ 64) z)

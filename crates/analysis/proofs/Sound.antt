@@ -4,12 +4,12 @@ use mathlib.Core.Path.{◌≡◌, refl, sym, ◌∙◌, subst}
 use mathlib.Core.Bool.{Bool, true, false, cond, ◌||◌}
 use mathlib.Core.Logic.{◌⊎◌, inl, inr}
 use mathlib.Core.List.{List}
-use mathlib.Core.Option.{Option, none, some}
 use Prim.Native.Nat.{ℕ, ◌+◌, ◌%◌, ◌^◌, ◌≤◌, ◌<◌}
 use native.Mathlib.Omega.{arith}
 use lib.ListN.{length, set}
 use lib.Dec.{eqb}
 use borrow.Author.Tests.{le-leb}
+use Rattle.std.specs.Prelude.{Some, None, Option}
 use Rattle.word.specs.Word.{cut, alu, compare}
 use Rattle.word.specs.declared.Operation.{Operation}
 use Rattle.word.specs.declared.Operation.TheVariants.{Add, Sub}
@@ -26,8 +26,7 @@ use Rattle.machine.specs.declared.instruction.Instruction.{Instruction}
 use Rattle.machine.specs.declared.instruction.Instruction.TheVariants.{Alu, Neg, Jump, Always, Exit, Load, Store, NoInstruction}
 use Rattle.machine.specs.Machine.{bits, bytes}
 use Rattle.number.specs.declared.Number.{Number}
-use Rattle.number.specs.declared.Refined.{Refined}
-use Rattle.number.specs.declared.Refined.TheVariants.{Excluded, Possible}
+use Rattle.number.specs.Refined.{Refined}
 use Rattle.number.specs.Meaning.{In, Kept}
 use Rattle.number.specs.Sharpen.{exact}
 use Rattle.number.specs.Sharpen as numbers
@@ -204,8 +203,8 @@ module _ (a : Facts) (c : Config) (d : Describes a c) where
 
   along_awaits : (r : ℕ) (s : Operand) (x y : ℕ) (o : Refined) → cell_of c r ≡ number x → operand_cell c s ≡ number y → Kept o x y → Awaits (along a r s o) c
   unfolding having cell_of
-  along_awaits r s x y Excluded p q h = absurd h
-  along_awaits r s x y (Possible m n) p q h =
+  along_awaits r s x y None p q h = absurd h
+  along_awaits r s x y (Some (m, n)) p q h =
       rw (along_possible a r s m n)
       (learn_operand _ s y n
       (record { registers = stand_learn a.registers c.registers r (Plain m) d.registers (rw p h.0); stack_size = d.stack_size; stack_bytes = d.stack_bytes })
@@ -217,8 +216,8 @@ module _ (a : Facts) (c : Config) (d : Describes a c) where
   compare_follows w k r s off m n x y p q h l = go (compare (bits w) k x y) refl
     where
       same : (j : ℕ) (o : Option Facts) → Awaits o c → Awaits o (record { registers = c.registers; stack = c.stack; index = j })
-      same j none e = e
-      same j (some b) e = record { registers = e.registers; stack_size = e.stack_size; stack_bytes = e.stack_bytes }
+      same j None e = e
+      same j (Some b) e = record { registers = e.registers; stack_size = e.stack_size; stack_bytes = e.stack_bytes }
 
       go : (t : Bool) → compare (bits w) k x y ≡ t
           → Follows c.index (flows (along a r s (told w k false m n)) (along a r s (told w k true m n)) (c.index + 1 + off))

@@ -3,13 +3,13 @@ use mathlib.Core.Path.{◌≡◌, refl, sym, ap, ◌∙◌}
 use mathlib.Core.Bool.{Bool, true, false, cond, not, ◌&&◌, ◌||◌}
 use mathlib.Core.Logic.{◌⊎◌, inl, inr}
 use mathlib.Core.List.{List}
-use mathlib.Core.Option.{some}
 use Prim.Native.Nat.{ℕ, zero, suc, ◌+◌, ◌-◌, ◌*◌, ◌/◌, ◌%◌, ◌^◌, ◌≤◌}
 use native.Mathlib.Nat.{zero-add}
 use native.Mathlib.Omega.{arith}
 use lib.ListN.{length, get_or, replicate}
 use lib.Dec.{eqb, leb, ltb}
 use borrow.Author.Tests.{ltb-false, le-ltb, eq-eqb}
+use Rattle.std.specs.Prelude.{Some}
 use Rattle.machine.specs.declared.outcome.Outcome.TheVariants.{Verdict, Budget}
 use Rattle.machine.specs.Machine.{World, bad_program, bad_record, bad_stack, bad_address, overlap, refused, interpreted, runs}
 use Rattle.analysis.specs.declared.Finding.{Finding}
@@ -106,8 +106,8 @@ module _ (program rec : List ℕ) (record_bytes : Bytes rec) (short : length pro
   pub followed_ends : (followed program (length rec)).finding ≡ Accepted → Ends program rec start_config (length program / 8)
   unfolding followed start_config
   followed_ends e =
-      let t = accepted_onward (send (length program / 8) 0 (some start_facts) nobody (2 * (length program / 8))) 0 (pass program (length rec) (length program / 8) 0) _
-      (send_sends (length program / 8) 0 (some start_facts) nobody (2 * (length program / 8))) e in
+      let t = accepted_onward (send (length program / 8) 0 (Some start_facts) nobody (2 * (length program / 8))) 0 (pass program (length rec) (length program / 8) 0) _
+      (send_sends (length program / 8) 0 (Some start_facts) nobody (2 * (length program / 8))) e in
       let s = t.2.1 start_config start_described in
       let w = accepted_settled program rec record_bytes short t.0 t.1 t.3 in
       let r = stable_ends program rec w.facts w.stable (λ c. length program / 8 - (c.index + 1)) w.falls start_config s.0 (w.covers start_config s.1) in

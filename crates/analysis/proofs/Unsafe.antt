@@ -1,4 +1,5 @@
 -- That Safe says something: memory can be laid for every record, and programs that fault, compare or report addresses are not safe.
+use Rattle.std.proofs.Common.{ℕ, None, Some}
 use mathlib.Core.Path.{◌≡◌, refl, sym, ap, ◌∙◌, subst}
 use mathlib.Core.Bool.{Bool, true, false, cond}
 use mathlib.Core.Logic.{◌⊎◌, inl, inr, ⊎_elim}
@@ -11,7 +12,6 @@ use borrow.Author.Tests.{le-ltb}
 use Rattle.word.specs.Word.{cut, extend, shift_signed, alu, moved, compare, read_bytes, write_bytes}
 use Rattle.machine.specs.declared.instruction.Size.{Size}
 use Rattle.machine.specs.declared.instruction.Size.TheVariants.{One, Four, Eight}
-use Rattle.machine.specs.declared.memory.Loaded.TheVariants.{Value, Nowhere}
 use Rattle.machine.specs.declared.outcome.Cause.{Cause}
 use Rattle.machine.specs.declared.outcome.Outcome.{Outcome}
 use Rattle.machine.specs.declared.outcome.Outcome.TheVariants.{Verdict, Fault, Budget, Refused}
@@ -223,12 +223,12 @@ k1_not_safe_with_71 safe =
 
 -- ---- loads from a record at 2 ^ 20 with the stack at 2 ^ 16, whatever the record's length
 
-at_first : (rec : List ℕ) (z : Size) → bytes z ≤ length rec → loaded (at_2^20 rec) (replicate 512 0) (2 ^ 20) z ≡ Value (read_bytes (bytes z) rec 0)
+at_first : (rec : List ℕ) (z : Size) → bytes z ≤ length rec → loaded (at_2^20 rec) (replicate 512 0) (2 ^ 20) z ≡ Some (read_bytes (bytes z) rec 0)
 unfolding loaded at_2^20
 at_first rec z l = rw (within_yes (at_2^20 rec) (2 ^ 20 + 0) (length rec) (2 ^ 20) (bytes z) (omega arith) (omega arith)) refl
 
 nowhere : (rec : List ℕ) (a : ℕ) → length rec ≤ 1024 → 2 ^ 16 + 512 ≤ a → (a < 2 ^ 20) ⊎ (2 ^ 20 + 1024 ≤ a)
-    → loaded (at_2^20 rec) (replicate 512 0) a One ≡ Nowhere
+    → loaded (at_2^20 rec) (replicate 512 0) a One ≡ None
 unfolding loaded bytes at_2^20
 nowhere rec a l h o =
     rw (within_no (at_2^20 rec) (2 ^ 20 + 0) (length rec) a 1 (⊎_elim (λ p. inl (omega arith)) (λ p. inr (omega arith)) o))

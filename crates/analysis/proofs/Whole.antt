@@ -4,7 +4,6 @@ use mathlib.Core.Path.{◌≡◌, refl, sym, ap, ap₂, ◌∙◌, subst}
 use mathlib.Core.Bool.{Bool, true, false, cond}
 use mathlib.Core.Logic.{◌↔◌, ⊎_elim}
 use mathlib.Core.List.{List}
-use mathlib.Core.Option.{Option, none, some}
 use Prim.Native.Nat.{ℕ, zero, suc, ◌+◌, ◌-◌, ◌*◌, ◌/◌, ◌≤◌, ◌<◌}
 use native.Mathlib.Nat.{eq-or-lt_of_le}
 use native.Mathlib.Numerals.{add-one}
@@ -12,6 +11,7 @@ use native.Mathlib.Omega.{arith}
 use lib.ListN.{length}
 use lib.Dec.{eqb, leb, ltb}
 use borrow.Author.Tests.{ne_eqb, leb-true, leb-false}
+use Rattle.std.specs.Prelude.{Option, Some, None}
 use Rattle.analysis.specs.declared.Reason.{Reason}
 use Rattle.analysis.specs.declared.Reason.TheVariants.{JumpsOut}
 use Rattle.analysis.specs.declared.Finding.{Finding}
@@ -33,26 +33,26 @@ use Rattle.analysis.proofs.Judgement.{NotForForm, answers_form}
 -- ---- one flow
 
 -- what comes is joined to what is known
-pub arriving : (p : Waiting) (j : ℕ) (a : Facts) (x : ℕ) → arrive p j a x ≡ together (p x) (cond (eqb x j) (some a) none)
+pub arriving : (p : Waiting) (j : ℕ) (a : Facts) (x : ℕ) → arrive p j a x ≡ together (p x) (cond (eqb x j) (Some a) None)
 unfolding arrive meeting together
 arriving p j a x = go (eqb x j) (p x)
   where
-    go : (b : Bool) (w : Option Facts) → cond b (some (meeting w a)) w ≡ together w (cond b (some a) none)
-    go true none = refl
-    go true (some c) = refl
+    go : (b : Bool) (w : Option Facts) → cond b (Some (meeting w a)) w ≡ together w (cond b (Some a) None)
+    go true None = refl
+    go true (Some c) = refl
     go false w = refl
 
-together_none : (b : Bool) (w : Option Facts) → w ≡ together w (cond b none none)
+together_none : (b : Bool) (w : Option Facts) → w ≡ together w (cond b None None)
 unfolding together
 together_none true w = refl
 together_none false w = refl
 
-send_brings : (n j : ℕ) (o : Option Facts) (p : Waiting) (work : ℕ) → Unless (send n j o p work) (λ q. (x : ℕ) → q x ≡ together (p x) (cond (eqb x j) o none))
+send_brings : (n j : ℕ) (o : Option Facts) (p : Waiting) (work : ℕ) → Unless (send n j o p work) (λ q. (x : ℕ) → q x ≡ together (p x) (cond (eqb x j) o None))
 unfolding send
-send_brings n j none p work = λ x. together_none (eqb x j) (p x)
-send_brings n j (some a) p work = go (ltb j n)
+send_brings n j None p work = λ x. together_none (eqb x j) (p x)
+send_brings n j (Some a) p work = go (ltb j n)
   where
-    go : (b : Bool) → Unless (cond b (onward (arrive p j a) (work + 11)) (halted JumpsOut p work)) (λ q. (x : ℕ) → q x ≡ together (p x) (cond (eqb x j) (some a) none))
+    go : (b : Bool) → Unless (cond b (onward (arrive p j a) (work + 11)) (halted JumpsOut p work)) (λ q. (x : ℕ) → q x ≡ together (p x) (cond (eqb x j) (Some a) None))
     go true = arriving p j a
     go false = tt
 
@@ -61,14 +61,14 @@ unfolding distribute and_then flowing
 distribute_brings n i p work (refuses reason) = tt
 distribute_brings n i p work (flows next there target) = go (send n (i + 1) next p work) (send_brings n (i + 1) next p work)
   where
-    two : (q : Waiting) → ((x : ℕ) → q x ≡ together (p x) (cond (eqb x (i + 1)) next none)) → (r : Progress)
-        → Unless r (λ u. (x : ℕ) → u x ≡ together (q x) (cond (eqb x target) there none))
-        → Unless r (λ u. (x : ℕ) → u x ≡ together (together (p x) (cond (eqb x (i + 1)) next none)) (cond (eqb x target) there none))
+    two : (q : Waiting) → ((x : ℕ) → q x ≡ together (p x) (cond (eqb x (i + 1)) next None)) → (r : Progress)
+        → Unless r (λ u. (x : ℕ) → u x ≡ together (q x) (cond (eqb x target) there None))
+        → Unless r (λ u. (x : ℕ) → u x ≡ together (together (p x) (cond (eqb x (i + 1)) next None)) (cond (eqb x target) there None))
     two q g (halted reason v k) h = tt
-    two q g (onward u k) h = λ x. h x ∙ ap (λ w. together w (cond (eqb x target) there none)) (g x)
+    two q g (onward u k) h = λ x. h x ∙ ap (λ w. together w (cond (eqb x target) there None)) (g x)
 
-    go : (r : Progress) → Unless r (λ q. (x : ℕ) → q x ≡ together (p x) (cond (eqb x (i + 1)) next none))
-        → Unless (and_then r (send n target there)) (λ u. (x : ℕ) → u x ≡ together (together (p x) (cond (eqb x (i + 1)) next none)) (cond (eqb x target) there none))
+    go : (r : Progress) → Unless r (λ q. (x : ℕ) → q x ≡ together (p x) (cond (eqb x (i + 1)) next None))
+        → Unless (and_then r (send n target there)) (λ u. (x : ℕ) → u x ≡ together (together (p x) (cond (eqb x (i + 1)) next None)) (cond (eqb x target) there None))
     go (halted reason u k) h = tt
     go (onward q k) h = two q h (send n target there q k) (send_brings n target there q k)
 
@@ -78,15 +78,15 @@ module _ (program : List ℕ) (R : ℕ) where
   -- what is sent on, and that the instruction allows it
   abbrev Brings : ℕ → Waiting → Option Facts → Progress → Type 0
   Brings i p w r =
-      Unless r (λ q. ((x : ℕ) → q x ≡ flow program R i w x (p x)) × ((a : Facts) (reason : Reason) → w ≡ some a → effect R i a (instruction program i) ≡ Refuse reason → ⊥))
+      Unless r (λ q. ((x : ℕ) → q x ≡ flow program R i w x (p x)) × ((a : Facts) (reason : Reason) → w ≡ Some a → effect R i a (instruction program i) ≡ Refuse reason → ⊥))
 
   visit_brings : (i : ℕ) (p : Waiting) (work : ℕ) (w : Option Facts) → Brings i p w (visit program R i p work w)
   unfolding visit flow apply distribute
-  visit_brings i p work none = (λ x. refl, λ a reason e h. let z : ◌≡◌ {A = ℕ} 0 1 = cc in omega arith)
-  visit_brings i p work (some a) = go (effect R i a (instruction program i)) refl
+  visit_brings i p work None = (λ x. refl, λ a reason e h. let z : ◌≡◌ {A = ℕ} 0 1 = cc in omega arith)
+  visit_brings i p work (Some a) = go (effect R i a (instruction program i)) refl
     where
       Allowed : Type 0
-      Allowed = (b : Facts) (reason : Reason) → some a ≡ some b → effect R i b (instruction program i) ≡ Refuse reason → ⊥
+      Allowed = (b : Facts) (reason : Reason) → Some a ≡ Some b → effect R i b (instruction program i) ≡ Refuse reason → ⊥
 
       both : (f : Flow) (r : Progress) → Unless r (λ q. (x : ℕ) → q x ≡ flowing i x f (p x)) → Allowed
           → Unless r (λ q. ((x : ℕ) → q x ≡ flowing i x f (p x)) × Allowed)
@@ -111,7 +111,7 @@ module _ (program : List ℕ) (R : ℕ) where
   Ended walk (Refused reason place) = LowestRefusal program R reason place × ((x : ℕ) → walk.waiting x ≡ known_from program R place x)
 
   one_more : (i : ℕ) (p : Waiting) → ((x : ℕ) → p x ≡ known_from program R i x) → ((j : ℕ) → j < i → Allows program R j)
-      → ((a : Facts) (reason : Reason) → p i ≡ some a → effect R i a (instruction program i) ≡ Refuse reason → ⊥) → (j : ℕ) → j < i + 1 → Allows program R j
+      → ((a : Facts) (reason : Reason) → p i ≡ Some a → effect R i a (instruction program i) ≡ Refuse reason → ⊥) → (j : ℕ) → j < i + 1 → Allows program R j
   unfolding known
   one_more i p same lower here j l =
       ⊎_elim (λ (e : j ≡ i). subst (Allows program R) (sym e) (λ reason r. here r.facts reason (same i ∙ r.knows) r.refuses_it))
@@ -147,17 +147,17 @@ module _ (program : List ℕ) (R : ℕ) where
     pub followed_ends : Ended (followed program R) (followed program R).finding
     unfolding followed conclude known_from together nobody
     followed_ends =
-        go (send (length program / 8) 0 (some start_facts) nobody (2 * (length program / 8))) (send_goes (length program / 8) 0 (some start_facts) nobody (2 * (length program / 8)) (some_instruction program R form))
-        (send_brings (length program / 8) 0 (some start_facts) nobody (2 * (length program / 8)))
+        go (send (length program / 8) 0 (Some start_facts) nobody (2 * (length program / 8))) (send_goes (length program / 8) 0 (Some start_facts) nobody (2 * (length program / 8)) (some_instruction program R form))
+        (send_brings (length program / 8) 0 (Some start_facts) nobody (2 * (length program / 8)))
       where
-        first : (o : Option Facts) → together none o ≡ o
-        first none = refl
-        first (some a) = refl
+        first : (o : Option Facts) → together None o ≡ o
+        first None = refl
+        first (Some a) = refl
 
-        go : (r : Progress) → Goes r → Unless r (λ q. (x : ℕ) → q x ≡ together none (cond (eqb x 0) (some start_facts) none))
+        go : (r : Progress) → Goes r → Unless r (λ q. (x : ℕ) → q x ≡ together None (cond (eqb x 0) (Some start_facts) None))
             → Ended (conclude r 0 (pass program R (length program / 8) 0)) (conclude r 0 (pass program R (length program / 8) 0)).finding
         go (halted s q w) g h = absurd g
-        go (onward q w) g h = pass_ends (length program / 8) 0 (omega arith) q w (λ x. h x ∙ first (cond (eqb x 0) (some start_facts) none)) (λ j l. absurd (omega arith))
+        go (onward q w) g h = pass_ends (length program / 8) 0 (omega arith) q w (λ x. h x ∙ first (cond (eqb x 0) (Some start_facts) None)) (λ j l. absurd (omega arith))
 
     -- of a program of good form the answer is that of the pass
     pub judged_followed : (judged program R).finding ≡ (followed program R).finding
@@ -236,8 +236,8 @@ module _ (program : List ℕ) (R : ℕ) where
   module _ (form : HasForm program R) where
     flow_forward : (i j : ℕ) → i < length program / 8 → j ≤ i → (o : Option Facts) (w : Option Facts) → flow program R i o j w ≡ w
     unfolding flow
-    flow_forward i j l m none w = refl
-    flow_forward i j l m (some a) w =
+    flow_forward i j l m None w = refl
+    flow_forward i j l m (Some a) w =
         forward i j a (effect R i a (instruction program i)) w (effect_lawful (length program / 8) i R a (instruction program i) l (form.orderly.fine i l)) m
 
     pub known_settles : (k j : ℕ) → j + k ≤ length program / 8 → known_from program R (j + k) j ≡ known program R j

@@ -4,13 +4,13 @@ use mathlib.Core.Path.{◌≡◌, refl, sym, ap, ◌∙◌, subst}
 use mathlib.Core.Bool.{Bool, true, false, cond}
 use mathlib.Core.Logic.{◌↔◌, ◌⊎◌, inl, inr}
 use mathlib.Core.List.{List}
-use mathlib.Core.Option.{Option, none, some}
 use Prim.Native.Nat.{ℕ, zero, suc, ◌+◌, ◌/◌, ◌^◌, ◌≤◌, ◌<◌}
 use native.Mathlib.Nat.{eq-or-lt_of_le, mod-eq_of_lt}
 use native.Mathlib.Omega.{arith}
 use lib.ListN.{length}
 use lib.Dec.{eqb}
 use borrow.Author.Tests.{eq-eqb, ne_eqb, lt-ltb}
+use Rattle.std.specs.Prelude.{Option, Some, None}
 use Rattle.analysis.specs.declared.Finding.TheVariants.{Accepted}
 use Rattle.analysis.specs.declared.Effect.{Effect}
 use Rattle.analysis.specs.declared.Effect.TheVariants.{Refuse, Put, Keep, Fork, Goto, Stop}
@@ -32,24 +32,24 @@ use Rattle.analysis.proofs.Theorem.{start_described, accepted_passed, followed_e
 
 -- from index i on nothing waits but what c has, at its index
 Alone : ℕ → Waiting → Config → Type 0
-Alone i p c = (j : ℕ) → i ≤ j → p j ≡ cond (eqb j c.index) (some (facts c)) none
+Alone i p c = (j : ℕ) → i ≤ j → p j ≡ cond (eqb j c.index) (Some (facts c)) None
 
 -- nothing waits
 Idle : ℕ → Waiting → Type 0
-Idle i p = (j : ℕ) → i ≤ j → p j ≡ none
+Idle i p = (j : ℕ) → i ≤ j → p j ≡ None
 
 module _ (p : Waiting) (c : Config) (alone : Alone c.index p c) where
-  alone_here : p c.index ≡ some (facts c)
+  alone_here : p c.index ≡ Some (facts c)
   unfolding Alone
-  alone_here = alone c.index (omega arith) ∙ ap (λ b. cond b (some (facts c)) none) (eq-eqb c.index c.index refl)
+  alone_here = alone c.index (omega arith) ∙ ap (λ b. cond b (Some (facts c)) None) (eq-eqb c.index c.index refl)
 
   idle_after : Idle (c.index + 1) p
   unfolding Alone Idle
-  idle_after j l = alone j (omega arith) ∙ ap (λ b. cond b (some (facts c)) none) (ne_eqb j c.index (λ e. omega arith))
+  idle_after j l = alone j (omega arith) ∙ ap (λ b. cond b (Some (facts c)) None) (ne_eqb j c.index (λ e. omega arith))
 
-nothing_yet : (i : ℕ) (p : Waiting) (c : Config) → i < c.index → Alone i p c → p i ≡ none
+nothing_yet : (i : ℕ) (p : Waiting) (c : Config) → i < c.index → Alone i p c → p i ≡ None
 unfolding Alone
-nothing_yet i p c l alone = alone i (omega arith) ∙ ap (λ b. cond b (some (facts c)) none) (ne_eqb i c.index (λ e. omega arith))
+nothing_yet i p c l alone = alone i (omega arith) ∙ ap (λ b. cond b (Some (facts c)) None) (ne_eqb i c.index (λ e. omega arith))
 
 later_alone : (i : ℕ) (p : Waiting) (c : Config) → Alone i p c → Alone (i + 1) p c
 unfolding Alone
@@ -60,8 +60,8 @@ arrives_alone : (i : ℕ) (p : Waiting) → Idle i p → (c : Config) → i ≤ 
 unfolding Alone Idle arrive meeting
 arrives_alone i p idle c l a e j m = go (eqb j c.index)
   where
-    go : (b : Bool) → cond b (some (meeting (p j) a)) (p j) ≡ cond b (some (facts c)) none
-    go true = ap some (ap (λ w. meeting w a) (idle j m) ∙ e)
+    go : (b : Bool) → cond b (Some (meeting (p j) a)) (p j) ≡ cond b (Some (facts c)) None
+    go true = ap Some (ap (λ w. meeting w a) (idle j m) ∙ e)
     go false = idle j m
 
 module _ (program : List ℕ) (R : ℕ) (form : HasForm program R) (short : length program / 8 ≤ 2 ^ 64)
@@ -71,7 +71,7 @@ module _ (program : List ℕ) (R : ℕ) (form : HasForm program R) (short : leng
   idle_accepted zero i p work idle = refl
   idle_accepted (suc k) i p work idle = rw (idle i (omega arith)) (idle_accepted k (i + 1) p work (λ j l. idle j (omega arith)))
 
-  skipped : (k i : ℕ) (p : Waiting) (work : ℕ) → p i ≡ none → (pass program R k (i + 1) p work).finding ≡ Accepted
+  skipped : (k i : ℕ) (p : Waiting) (work : ℕ) → p i ≡ None → (pass program R k (i + 1) p work).finding ≡ Accepted
       → (conclude (visit program R i p work (p i)) i (pass program R k (i + 1))).finding ≡ Accepted
   unfolding visit conclude
   skipped k i p work e h = rw e h
@@ -84,9 +84,9 @@ module _ (program : List ℕ) (R : ℕ) (form : HasForm program R) (short : leng
       → (q : Waiting) × (w : ℕ) × (distribute (length program / 8) c.index p work (apply (facts c) e) ≡ onward q w) × (c.index < c'.index) × Alone (c.index + 1) q c'
 
   -- facts that come to the next index, or to a target, and nothing else
-  goes_on_lem : (c c' : Config) (p : Waiting) (work : ℕ) (next : Option Facts) (target : ℕ) → Idle (c.index + 1) p → c'.index ≡ c.index + 1 → next ≡ some (facts c')
+  goes_on_lem : (c c' : Config) (p : Waiting) (work : ℕ) (next : Option Facts) (target : ℕ) → Idle (c.index + 1) p → c'.index ≡ c.index + 1 → next ≡ Some (facts c')
       → c'.index < length program / 8
-      → (q : Waiting) × (w : ℕ) × (distribute (length program / 8) c.index p work (flows next none target) ≡ onward q w) × (c.index < c'.index) × Alone (c.index + 1) q c'
+      → (q : Waiting) × (w : ℕ) × (distribute (length program / 8) c.index p work (flows next None target) ≡ onward q w) × (c.index < c'.index) × Alone (c.index + 1) q c'
   unfolding distribute and_then send
   goes_on_lem c c' p work next target idle e f l = (
     arrive p c'.index (facts c'),
@@ -97,8 +97,8 @@ module _ (program : List ℕ) (R : ℕ) (form : HasForm program R) (short : leng
   )
 
   goes_there : (c c' : Config) (p : Waiting) (work : ℕ) (there : Option Facts) (target : ℕ) → Idle (c.index + 1) p → c'.index ≡ target → c.index < target
-      → there ≡ some (facts c') → c'.index < length program / 8
-      → (q : Waiting) × (w : ℕ) × (distribute (length program / 8) c.index p work (flows none there target) ≡ onward q w) × (c.index < c'.index) × Alone (c.index + 1) q c'
+      → there ≡ Some (facts c') → c'.index < length program / 8
+      → (q : Waiting) × (w : ℕ) × (distribute (length program / 8) c.index p work (flows None there target) ≡ onward q w) × (c.index < c'.index) × Alone (c.index + 1) q c'
   unfolding distribute and_then send
   goes_there c c' p work there target idle e m f l = (
     arrive p c'.index (facts c'),
@@ -116,10 +116,10 @@ module _ (program : List ℕ) (R : ℕ) (form : HasForm program R) (short : leng
   proceeds c p work (Refuse reason) (goes c') idle law m = absurd m
   proceeds c p work (Put d v) stuck idle law m = tt
   proceeds c p work (Put d v) (ends u) idle law m = absurd m
-  proceeds c p work (Put d v) (goes c') idle law m = λ l. goes_on_lem c c' p work _ 0 idle m.0 (ap some m.1) l
+  proceeds c p work (Put d v) (goes c') idle law m = λ l. goes_on_lem c c' p work _ 0 idle m.0 (ap Some m.1) l
   proceeds c p work Keep stuck idle law m = tt
   proceeds c p work Keep (ends u) idle law m = absurd m
-  proceeds c p work Keep (goes c') idle law m = λ l. goes_on_lem c c' p work _ 0 idle m.0 (ap some m.1) l
+  proceeds c p work Keep (goes c') idle law m = λ l. goes_on_lem c c' p work _ 0 idle m.0 (ap Some m.1) l
   proceeds c p work (Fork d s o t target) stuck idle law m = tt
   proceeds c p work (Fork d s o t target) (ends u) idle law m = absurd m
   proceeds c p work (Fork d s o t target) (goes c') idle law (inl m) = λ l. rw m.2 (goes_on_lem c c' p work (along (facts c) d s o) target idle m.0 m.1 l)
@@ -128,7 +128,7 @@ module _ (program : List ℕ) (R : ℕ) (form : HasForm program R) (short : leng
   proceeds c p work (Goto target) stuck idle law m = tt
   proceeds c p work (Goto target) (ends u) idle law m = absurd m
   proceeds c p work (Goto target) (goes c') idle law m =
-      λ l. goes_there c c' p work (some (facts c)) target idle (m.0 ∙ mod-eq_of_lt (omega (arith, law.0, short))) law.1 (ap some m.1) l
+      λ l. goes_there c c' p work (Some (facts c)) target idle (m.0 ∙ mod-eq_of_lt (omega (arith, law.0, short))) law.1 (ap Some m.1) l
   proceeds c p work Stop stuck idle law m = tt
   proceeds c p work Stop (ends u) idle law m = (work, refl)
   proceeds c p work Stop (goes c') idle law m = absurd m

@@ -2,11 +2,11 @@
 use mathlib.Core.Path.{◌≡◌, refl}
 use mathlib.Core.Bool.{Bool, true, false, cond}
 use mathlib.Core.List.{List}
-use mathlib.Core.Option.{Option, none, some}
 use Prim.Native.Nat.{ℕ, zero, suc, ◌+◌, ◌*◌, ◌/◌, ◌≤◌}
 use native.Mathlib.Omega.{arith}
 use lib.ListN.{length}
 use lib.Dec.{ltb}
+use Rattle.std.specs.Prelude.{Option, Some, None}
 use Rattle.machine.specs.Machine.{bad_program, bad_record}
 use Rattle.analysis.specs.declared.Reason.TheVariants.{BadLength, LongRecord, JumpsOut}
 use Rattle.analysis.specs.declared.Finding.{Finding}
@@ -25,8 +25,8 @@ done (onward p work) = work
 
 send_work : (n j : ℕ) (o : Option Facts) (p : Waiting) (work : ℕ) → done (send n j o p work) ≤ work + 11
 unfolding send
-send_work n j none p work = omega arith
-send_work n j (some a) p work = go (ltb j n)
+send_work n j None p work = omega arith
+send_work n j (Some a) p work = go (ltb j n)
   where
     go : (b : Bool) → done (cond b (onward (arrive p j a) (work + 11)) (halted JumpsOut p work)) ≤ work + 11
     go true = omega arith
@@ -43,8 +43,8 @@ distribute_work n i p work (flows next there target) = go (send n (i + 1) next p
 
 visit_work : (program : List ℕ) (R i : ℕ) (p : Waiting) (work : ℕ) (w : Option Facts) → done (visit program R i p work w) ≤ work + 23
 unfolding visit
-visit_work program R i p work none = omega arith
-visit_work program R i p work (some a) =
+visit_work program R i p work None = omega arith
+visit_work program R i p work (Some a) =
     omega (arith, distribute_work (length program / 8) i p (work + 1) (apply a (effect R i a (instruction program i))))
 
 pass_work : (program : List ℕ) (R k i : ℕ) (p : Waiting) (work : ℕ) → (pass program R k i p work).work ≤ work + 23 * k
@@ -60,7 +60,7 @@ pass_work program R (suc k) i p work = go (visit program R i p work (p i)) (visi
 followed_work : (program : List ℕ) (R : ℕ) → (followed program R).work ≤ 25 * (length program / 8) + 11
 unfolding followed conclude
 followed_work program R =
-    go (send (length program / 8) 0 (some start_facts) nobody (2 * (length program / 8))) (send_work (length program / 8) 0 (some start_facts) nobody (2 * (length program / 8)))
+    go (send (length program / 8) 0 (Some start_facts) nobody (2 * (length program / 8))) (send_work (length program / 8) 0 (Some start_facts) nobody (2 * (length program / 8)))
   where
     go : (r : Progress) → done r ≤ 2 * (length program / 8) + 11 → (conclude r 0 (pass program R (length program / 8) 0)).work ≤ 25 * (length program / 8) + 11
     go (halted reason q m) h = omega arith

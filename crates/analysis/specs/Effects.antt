@@ -14,7 +14,7 @@ use Rattle.machine.specs.Machine.{bits, bytes}
 use Rattle.number.specs.declared.Number.{Number}
 use Rattle.number.specs.Sharpen.{exact, loaded}
 use Rattle.number.specs.Computed.{computed, fits}
-use Rattle.number.specs.declared.Refined.{Refined}
+use Rattle.number.specs.Refined.{Refined}
 use Rattle.number.specs.Compare.{refined}
 use Rattle.number.specs.Halves.{refined32}
 use Rattle.analysis.specs.declared.Reason.TheVariants.{NoCode, WritesR10, ReadsUnset, Outside, LeaksAddress}

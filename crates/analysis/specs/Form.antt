@@ -1,6 +1,5 @@
 -- The tests on form of docs/VERIFIER.md, section 1: what a program of good form is, and the first test that fails.
-use Rattle.std.specs.Prelude.{◌≡◌, ◌⊎◌, Bool, true, false, cond, not, ◌&&◌, ◌||◌, List, ℕ, ◌+◌, ◌*◌, ◌/◌, ◌^◌, ◌<◌, length, eqb, leb}
-use Rattle.std.proofs.Math.Option.{Option, none, some}
+use Rattle.std.specs.Prelude.{◌≡◌, ◌⊎◌, Bool, true, false, cond, not, ◌&&◌, ◌||◌, List, ℕ, ◌+◌, ◌*◌, ◌/◌, ◌^◌, ◌<◌, length, eqb, leb, Option, Some, None}
 use Rattle.machine.specs.declared.instruction.Instruction.{Instruction}
 use Rattle.machine.specs.declared.instruction.Instruction.TheVariants.{Alu, Neg, Jump, Always, Exit, Load, Store, NoInstruction}
 use Rattle.machine.specs.Instruction.{decode, writes}
@@ -27,23 +26,23 @@ instruction program i = decode program (i * 8)
 
 -- the off of a jump; EXIT is no jump here
 unfoldable pub off_of : Instruction → Option ℕ
-off_of (Jump w c d s off) = some off
-off_of (Always off) = some off
-off_of (Alu w op d s) = none
-off_of (Neg w d) = none
-off_of Exit = none
-off_of (Load z d s off) = none
-off_of (Store z d off s) = none
-off_of NoInstruction = none
+off_of (Jump w c d s off) = Some off
+off_of (Always off) = Some off
+off_of (Alu w op d s) = None
+off_of (Neg w d) = None
+off_of Exit = None
+off_of (Load z d s off) = None
+off_of (Store z d off s) = None
+off_of NoInstruction = None
 
 -- off is kept extended with its sign to 64 bits
 unfoldable pub goes_back : Option ℕ → Bool
-goes_back none = false
-goes_back (some off) = leb (2 ^ 63) off
+goes_back None = false
+goes_back (Some off) = leb (2 ^ 63) off
 
 unfoldable pub goes_out : ℕ → ℕ → Option ℕ → Bool
-goes_out n i none = false
-goes_out n i (some off) = leb n (i + 1 + off)
+goes_out n i None = false
+goes_out n i (Some off) = leb n (i + 1 + off)
 
 -- a program may end in EXIT or JA
 unfoldable pub may_be_last : Instruction → Bool
@@ -63,11 +62,11 @@ goes_on ins = not (may_be_last ins)
 -- ---- the tests at an index of n, the lower reason first
 unfoldable pub failing : ℕ → ℕ → Instruction → Option Reason
 failing n i ins =
-    cond (is_no_instruction ins) (some NoCode)
-    (cond (names10 (writes ins)) (some WritesR10)
-    (cond (goes_back (off_of ins)) (some JumpsBack)
-    (cond (goes_out n i (off_of ins) || (eqb (i + 1) n && not (may_be_last ins))) (some JumpsOut)
-    none)))
+    cond (is_no_instruction ins) (Some NoCode)
+    (cond (names10 (writes ins)) (Some WritesR10)
+    (cond (goes_back (off_of ins)) (Some JumpsBack)
+    (cond (goes_out n i (off_of ins) || (eqb (i + 1) n && not (may_be_last ins))) (Some JumpsOut)
+    None)))
 
 -- ---- a program of good form, as a proposition
 pub record Fine (n i : ℕ) (ins : Instruction) : Type 0 where
@@ -87,7 +86,7 @@ pub record Orderly (program : List ℕ) (R : ℕ) : Type 0 where
 pub data Reached (program : List ℕ) : ℕ → Type 0 where
   at_the_start : Reached program 0
   by_going_on : (i : ℕ) → Reached program i → goes_on (instruction program i) ≡ true → Reached program (i + 1)
-  by_a_jump : (i off : ℕ) → Reached program i → off_of (instruction program i) ≡ some off → Reached program (i + 1 + off)
+  by_a_jump : (i off : ℕ) → Reached program i → off_of (instruction program i) ≡ Some off → Reached program (i + 1 + off)
 
 -- they are passed, and there is no dead code
 pub record HasForm (program : List ℕ) (R : ℕ) : Type 0 where

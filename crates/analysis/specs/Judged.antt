@@ -1,12 +1,10 @@
 -- The analysis: the tests on form, dead code among them, then one pass that follows the values. Jumps go forward, so each index is looked at once, after all
 -- that comes there. The answer is a reason and a place, and how much was done.
-use Rattle.std.specs.Prelude.{Bool, true, false, cond, List, ℕ, zero, suc, ◌+◌, ◌*◌, ◌/◌, length, set, eqb, ltb}
-use Rattle.std.proofs.Math.Option.{Option, none, some}
+use Rattle.std.specs.Prelude.{Bool, true, false, cond, List, ℕ, zero, suc, ◌+◌, ◌*◌, ◌/◌, length, set, eqb, ltb, Some, None, Option}
 use Rattle.machine.specs.declared.instruction.Operand.{Operand}
 use Rattle.machine.specs.declared.instruction.Operand.TheVariants.{Immediate, Register}
 use Rattle.machine.specs.Machine.{bad_program, bad_record}
-use Rattle.number.specs.declared.Refined.{Refined}
-use Rattle.number.specs.declared.Refined.TheVariants.{Excluded, Possible}
+use Rattle.number.specs.Refined.{Refined}
 use Rattle.analysis.specs.declared.Reason.{Reason}
 use Rattle.analysis.specs.declared.Reason.TheVariants.{BadLength, LongRecord, NoCode, WritesR10, JumpsBack, JumpsOut, ReadsUnset, Outside, LeaksAddress, DeadCode}
 use Rattle.analysis.specs.declared.Finding.{Finding}
@@ -53,8 +51,8 @@ with_operand a (Register r) v = having a r v
 
 -- what is known on a way out of a jump; where both operands are one register, what the second tells is kept
 unfoldable pub along : Facts → ℕ → Operand → Refined → Option Facts
-along a d s Excluded = none
-along a d s (Possible x y) = some (with_operand (having a d (Plain x)) s (Plain y))
+along a d s None = None
+along a d s (Some (x, y)) = Some (with_operand (having a d (Plain x)) s (Plain y))
 
 -- a refusal; or the facts that go on to the next index, and those that go to a target
 pub data Flow : Type 0 where
@@ -63,11 +61,11 @@ pub data Flow : Type 0 where
 
 unfoldable pub apply : Facts → Effect → Flow
 apply a (Refuse reason) = refuses reason
-apply a (Put d v) = flows (some (having a d v)) none 0
-apply a Keep = flows (some a) none 0
+apply a (Put d v) = flows (Some (having a d v)) None 0
+apply a Keep = flows (Some a) None 0
 apply a (Fork d s onward taken target) = flows (along a d s onward) (along a d s taken) target
-apply a (Goto target) = flows none (some a) target
-apply a Stop = flows none none 0
+apply a (Goto target) = flows None (Some a) target
+apply a Stop = flows None None 0
 
 -- ---- the pass
 
@@ -76,10 +74,10 @@ abbrev pub Waiting : Type 0
 Waiting = ℕ → Option Facts
 
 unfoldable pub nobody : Waiting
-nobody = λ x. none
+nobody = λ x. None
 
 unfoldable pub arrive : Waiting → ℕ → Facts → Waiting
-arrive p j a = λ x. cond (eqb x j) (some (meeting (p x) a)) (p x)
+arrive p j a = λ x. cond (eqb x j) (Some (meeting (p x) a)) (p x)
 
 -- a refusal, or more to do; what waits then, and what has been done
 pub data Progress : Type 0 where
@@ -88,8 +86,8 @@ pub data Progress : Type 0 where
 
 -- eleven values are copied or joined. A place outside of the program is refused, so that what follows needs no test on form
 unfoldable pub send : ℕ → ℕ → Option Facts → Waiting → ℕ → Progress
-send n j none p work = onward p work
-send n j (some a) p work = cond (ltb j n) (onward (arrive p j a) (work + 11)) (halted JumpsOut p work)
+send n j None p work = onward p work
+send n j (Some a) p work = cond (ltb j n) (onward (arrive p j a) (work + 11)) (halted JumpsOut p work)
 
 unfoldable pub and_then : Progress → (Waiting → ℕ → Progress) → Progress
 and_then (halted reason p work) more = halted reason p work
@@ -101,8 +99,8 @@ distribute n i p work (flows next there target) = and_then (send n (i + 1) next 
 
 -- an instruction to which every way is excluded is not looked at
 unfoldable pub visit : List ℕ → ℕ → ℕ → Waiting → ℕ → Option Facts → Progress
-visit program R i p work none = onward p work
-visit program R i p work (some a) = distribute (length program / 8) i p (work + 1) (apply a (effect R i a (instruction program i)))
+visit program R i p work None = onward p work
+visit program R i p work (Some a) = distribute (length program / 8) i p (work + 1) (apply a (effect R i a (instruction program i)))
 
 -- how the pass ends, and what waits at each index then: nothing comes to an index any more that has been looked at
 pub record Walk : Type 0 where
@@ -122,8 +120,8 @@ pass program R (suc k) i p work = conclude (visit program R i p work (p i)) i (p
 -- ---- the whole
 
 unfoldable pub or_else : ℕ → Option Reason → Finding → Finding
-or_else i none more = more
-or_else i (some reason) more = Refused reason i
+or_else i None more = more
+or_else i (Some reason) more = Refused reason i
 
 -- the tests on form of k instructions from index i on: the lowest index that fails is refused
 unfoldable pub formed : List ℕ → ℕ → ℕ → Finding
@@ -133,7 +131,7 @@ formed program (suc k) i = or_else i (failing (length program / 8) i (instructio
 -- the start waits at index 0. The tests on each instruction, and the one for dead code, have looked at each
 unfoldable pub followed : List ℕ → ℕ → Walk
 followed program R =
-    conclude (send (length program / 8) 0 (some start_facts) nobody (2 * (length program / 8))) 0 (pass program R (length program / 8) 0)
+    conclude (send (length program / 8) 0 (Some start_facts) nobody (2 * (length program / 8))) 0 (pass program R (length program / 8) 0)
 
 unfoldable pub on_paths : List ℕ → ℕ → Finding → Judged
 on_paths program R Accepted = record { finding = (followed program R).finding; work = (followed program R).work }

@@ -1,3 +1,4 @@
+pub mod Answer
 pub mod Effects
 pub mod Form
 pub mod Judged

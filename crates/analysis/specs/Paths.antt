@@ -1,7 +1,6 @@
 -- The test for dead code of docs/VERIFIER.md, section 1: one pass over the jump graph. Jumps go forward, so that all that leads to an index
 -- has been seen before it is looked at.
-use Rattle.std.specs.Prelude.{Bool, true, false, cond, ◌||◌, List, ℕ, zero, suc, ◌+◌, ◌/◌, length, eqb}
-use Rattle.std.proofs.Math.Option.{Option, none, some}
+use Rattle.std.specs.Prelude.{Bool, true, false, cond, ◌||◌, List, ℕ, zero, suc, ◌+◌, ◌/◌, length, eqb, Option, Some, None}
 use Rattle.analysis.specs.declared.Reason.TheVariants.{DeadCode}
 use Rattle.analysis.specs.declared.Finding.{Finding}
 use Rattle.analysis.specs.declared.Finding.TheVariants.{Accepted, Refused}
@@ -16,8 +15,8 @@ no_target = λ x. false
 
 -- and that of the instruction at index i, by its off
 unfoldable pub aimed : ℕ → Option ℕ → Targets → Targets
-aimed i none t = t
-aimed i (some off) t = λ x. eqb x (i + 1 + off) || t x
+aimed i None t = t
+aimed i (Some off) t = λ x. eqb x (i + 1 + off) || t x
 
 -- k instructions from index i on: whether the one before goes on to i, and where those before jump. The first that nothing leads to is dead
 unfoldable pub reaching : List ℕ → ℕ → ℕ → Bool → Targets → Finding

@@ -2,8 +2,7 @@
 -- known at an index is the join, register by register, of what flows there from the indices below, in their order; a program is refused at
 -- the lowest index that refuses what is known there, and accepted if there is none. What flows out of an instruction is held to sentences.
 -- And little work is done.
-use Rattle.std.specs.Prelude.{◌≡◌, ◌⊎◌, ◌↔◌, Bool, true, false, cond, List, ℕ, zero, suc, ◌+◌, ◌*◌, ◌/◌, ◌^◌, ◌≤◌, ◌<◌, length, eqb}
-use Rattle.std.proofs.Math.Option.{Option, none, some}
+use Rattle.std.specs.Prelude.{◌≡◌, ◌⊎◌, ◌↔◌, Bool, true, false, cond, List, ℕ, zero, suc, ◌+◌, ◌*◌, ◌/◌, ◌^◌, ◌≤◌, ◌<◌, length, eqb, Some, None, Option}
 use Rattle.word.specs.declared.Operation.{Operation}
 use Rattle.word.specs.declared.Operation.TheVariants.{Add, Sub, Mov}
 use Rattle.word.specs.declared.Operation.TheVariants as operation
@@ -17,7 +16,6 @@ use Rattle.machine.specs.declared.instruction.Instruction.TheVariants.{Alu, Neg,
 use Rattle.machine.specs.Instruction.{decode}
 use Rattle.machine.specs.Machine.{bits, bytes, bad_program, bad_record}
 use Rattle.number.specs.declared.Number.{Number}
-use Rattle.number.specs.declared.Refined.TheVariants.{Excluded, Possible}
 use Rattle.number.specs.Sharpen.{exact, loaded, joined_number}
 use Rattle.number.specs.Computed.{computed}
 use Rattle.number.specs.Compare.{refined}
@@ -45,23 +43,23 @@ use Rattle.analysis.specs.Safe.{Safe}
 
 -- what is known already, and what comes by one way more: where nothing comes, nothing is forgotten
 unfoldable pub together : Option Facts → Option Facts → Option Facts
-together w none = w
-together none (some b) = some b
-together (some a) (some b) = some (joined_facts a b)
+together w None = w
+together None (Some b) = Some b
+together (Some a) (Some b) = Some (joined_facts a b)
 
 -- what comes to index j out of index i, joined to what is known: by the way on to i + 1, and by the way to the target
 unfoldable pub flowing : ℕ → ℕ → Flow → Option Facts → Option Facts
 flowing i j (refuses reason) w = w
-flowing i j (flows next there target) w = together (together w (cond (eqb j (i + 1)) next none)) (cond (eqb j target) there none)
+flowing i j (flows next there target) w = together (together w (cond (eqb j (i + 1)) next None)) (cond (eqb j target) there None)
 
 -- the flow out of index i, where a is known; nothing flows out of an index that nothing flows to
 unfoldable pub flow : List ℕ → ℕ → ℕ → Option Facts → ℕ → Option Facts → Option Facts
-flow program R i none j w = w
-flow program R i (some a) j w = flowing i j (apply a (effect R i a (instruction program i))) w
+flow program R i None j w = w
+flow program R i (Some a) j w = flowing i j (apply a (effect R i a (instruction program i))) w
 
 -- what is known at index j of all that flows there from the indices below i: the run starts at index 0
 unfoldable pub known_from : List ℕ → ℕ → ℕ → ℕ → Option Facts
-known_from program R zero j = cond (eqb j 0) (some start_facts) none
+known_from program R zero j = cond (eqb j 0) (Some start_facts) None
 known_from program R (suc i) j = flow program R i (known_from program R i i) j (known_from program R i j)
 
 -- what is known at index j: all flows go forward
@@ -73,7 +71,7 @@ known program R j = known_from program R j j
 -- the instruction at index j refuses what is known there; and it does not, or nothing flows there
 pub record Refuses (program : List ℕ) (R : ℕ) (reason : Reason) (j : ℕ) : Type 0 where
   pub facts : Facts
-  pub knows : known program R j ≡ some facts
+  pub knows : known program R j ≡ Some facts
   pub refuses_it : effect R j facts (instruction program j) ≡ Refuse reason
 
 abbrev pub Allows : List ℕ → ℕ → ℕ → Type 0
@@ -104,7 +102,7 @@ pub record Whole (program : List ℕ) (R : ℕ) (answer : Finding) : Type 0 wher
 -- a way out of a jump that is possible is followed: with what is told of both operands, and every other register as it was
 pub record WayOut (a : Facts) (d : ℕ) (s : Operand) (x y : Number) (o : Option Facts) : Type 0 where
   pub facts : Facts
-  pub followed_on : o ≡ some facts
+  pub followed_on : o ≡ Some facts
   pub others : (r : ℕ) → (r ≡ d → ⊥) → (s ≡ Register r → ⊥) → value_of facts r ≡ value_of a r
   pub second : (r : ℕ) → s ≡ Register r → r < length a.registers → value_of facts r ≡ Plain y
   pub first : d < length a.registers → (s ≡ Register d → ⊥) → value_of facts d ≡ Plain x
@@ -114,20 +112,20 @@ pub record WayOut (a : Facts) (d : ℕ) (s : Operand) (x y : Number) (o : Option
 pub record OfForm : Type 0 where
   pub decoded : (program : List ℕ) (i : ℕ) → instruction program i ≡ decode program (i * 8)
   pub conditional_jumps : (w : Width) (c : Comparison) (d : ℕ) (s : Operand) (off : ℕ)
-      → (off_of (Jump w c d s off) ≡ some off) × (goes_on (Jump w c d s off) ≡ true) × (may_be_last (Jump w c d s off) ≡ false)
-  pub always_jumps : (off : ℕ) → (off_of (Always off) ≡ some off) × (goes_on (Always off) ≡ false) × (may_be_last (Always off) ≡ true)
-  pub exit_ends : (off_of Exit ≡ none) × (goes_on Exit ≡ false) × (may_be_last Exit ≡ true)
+      → (off_of (Jump w c d s off) ≡ Some off) × (goes_on (Jump w c d s off) ≡ true) × (may_be_last (Jump w c d s off) ≡ false)
+  pub always_jumps : (off : ℕ) → (off_of (Always off) ≡ Some off) × (goes_on (Always off) ≡ false) × (may_be_last (Always off) ≡ true)
+  pub exit_ends : (off_of Exit ≡ None) × (goes_on Exit ≡ false) × (may_be_last Exit ≡ true)
   pub calculation_goes_on : (w : Width) (op : Operation) (d : ℕ) (s : Operand)
-      → (off_of (Alu w op d s) ≡ none) × (goes_on (Alu w op d s) ≡ true) × (may_be_last (Alu w op d s) ≡ false)
-  pub negation_goes_on : (w : Width) (d : ℕ) → (off_of (Neg w d) ≡ none) × (goes_on (Neg w d) ≡ true) × (may_be_last (Neg w d) ≡ false)
+      → (off_of (Alu w op d s) ≡ None) × (goes_on (Alu w op d s) ≡ true) × (may_be_last (Alu w op d s) ≡ false)
+  pub negation_goes_on : (w : Width) (d : ℕ) → (off_of (Neg w d) ≡ None) × (goes_on (Neg w d) ≡ true) × (may_be_last (Neg w d) ≡ false)
   pub load_goes_on : (z : Size) (d s off : ℕ)
-      → (off_of (Load z d s off) ≡ none) × (goes_on (Load z d s off) ≡ true) × (may_be_last (Load z d s off) ≡ false)
+      → (off_of (Load z d s off) ≡ None) × (goes_on (Load z d s off) ≡ true) × (may_be_last (Load z d s off) ≡ false)
   pub store_goes_on : (z : Size) (d off : ℕ) (s : Operand)
-      → (off_of (Store z d off s) ≡ none) × (goes_on (Store z d off s) ≡ true) × (may_be_last (Store z d off s) ≡ false)
+      → (off_of (Store z d off s) ≡ None) × (goes_on (Store z d off s) ≡ true) × (may_be_last (Store z d off s) ≡ false)
   -- back is an off with its sign set; out is a target that is no index of n
-  pub back : (off : ℕ) → (goes_back (some off) ≡ true) ↔ (2 ^ 63 ≤ off)
-  pub out : (n i off : ℕ) → (goes_out n i (some off) ≡ true) ↔ (n ≤ i + 1 + off)
-  pub nowhere : (n i : ℕ) → (goes_back none ≡ false) × (goes_out n i none ≡ false)
+  pub back : (off : ℕ) → (goes_back (Some off) ≡ true) ↔ (2 ^ 63 ≤ off)
+  pub out : (n i off : ℕ) → (goes_out n i (Some off) ≡ true) ↔ (n ≤ i + 1 + off)
+  pub nowhere : (n i : ℕ) → (goes_back None ≡ false) × (goes_out n i None ≡ false)
   -- the numbers of the reasons, and those that are for values
   pub numbers_of_form : (reason_number BadLength ≡ 1) × (reason_number LongRecord ≡ 2) × (reason_number NoCode ≡ 3) × (reason_number WritesR10 ≡ 4)
       × (reason_number JumpsBack ≡ 5) × (reason_number JumpsOut ≡ 6) × (reason_number DeadCode ≡ 12)
@@ -217,18 +215,18 @@ pub record OfRefusals (R i : ℕ) (a : Facts) : Type 0 where
 
 -- which ways lead out, and with what
 pub record OfWays (R i : ℕ) (a : Facts) : Type 0 where
-  pub put_flows : (d : ℕ) (v : Value) → apply a (Put d v) ≡ flows (some (having a d v)) none 0
-  pub keep_flows : apply a Keep ≡ flows (some a) none 0
-  pub stop_flows : apply a Stop ≡ flows none none 0
-  pub goto_flows : (off : ℕ) → apply a (effect R i a (Always off)) ≡ flows none (some a) (i + 1 + off)
+  pub put_flows : (d : ℕ) (v : Value) → apply a (Put d v) ≡ flows (Some (having a d v)) None 0
+  pub keep_flows : apply a Keep ≡ flows (Some a) None 0
+  pub stop_flows : apply a Stop ≡ flows None None 0
+  pub goto_flows : (off : ℕ) → apply a (effect R i a (Always off)) ≡ flows None (Some a) (i + 1 + off)
   pub number_may_be_returned : (x : Number) → value_of a 0 ≡ Plain x → effect R i a Exit ≡ Stop
   pub jump_flows : (w : Width) (c : Comparison) (d : ℕ) (s : Operand) (off : ℕ) (x y : Number) → value_of a d ≡ Plain x → operand_of a s ≡ Plain y
       → apply a (effect R i a (Jump w c d s off)) ≡ flows (along a d s (told w c false x y)) (along a d s (told w c true x y)) (i + 1 + off)
   -- a comparison at 64 bits tells of the numbers, one at 32 bits of their low halves; an excluded way is not followed
   pub told_long : (c : Comparison) (way : Bool) (x y : Number) → told Long c way x y ≡ refined c way x y
   pub told_short : (c : Comparison) (way : Bool) (x y : Number) → told Short c way x y ≡ refined32 c way x y
-  pub excluded_not_followed : (d : ℕ) (s : Operand) → along a d s Excluded ≡ none
-  pub possible_followed : (d : ℕ) (s : Operand) (x y : Number) → WayOut a d s x y (along a d s (Possible x y))
+  pub excluded_not_followed : (d : ℕ) (s : Operand) → along a d s None ≡ None
+  pub possible_followed : (d : ℕ) (s : Operand) (x y : Number) → WayOut a d s x y (along a d s (Some (x, y)))
 
 -- what is known of a register, after it is written and where paths meet
 pub record OfRegisters (a : Facts) : Type 0 where
@@ -259,7 +257,7 @@ pub record Sentences : Type 0 where
   pub r1_is_the_record : value_of start_facts 1 ≡ Address Record (exact 0)
   pub r10_is_the_end_of_the_stack : value_of start_facts 10 ≡ Address Stack (exact 512)
   -- the states have eleven registers, so that their joins are register by register
-  pub eleven : (program : List ℕ) (R j : ℕ) (a : Facts) → known program R j ≡ some a → length a.registers ≡ 11
+  pub eleven : (program : List ℕ) (R j : ℕ) (a : Facts) → known program R j ≡ Some a → length a.registers ≡ 11
   pub numbers : Demanded
 
 -- ---- the promise

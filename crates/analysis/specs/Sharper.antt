@@ -1,7 +1,6 @@
 -- When what is known says no less than something else that is known: of a number, of the registers, of what flows out of an index. And when
 -- what is known does not contradict itself.
-use Rattle.std.specs.Prelude.{◌≡◌, List, [], ◌∷◌, ℕ, ◌≤◌}
-use Rattle.std.proofs.Math.Option.{Option, none, some}
+use Rattle.std.specs.Prelude.{◌≡◌, List, [], ◌∷◌, ℕ, ◌≤◌, Option, Some, None}
 use Rattle.word.specs.declared.Operation.{Operation}
 use Rattle.word.specs.declared.Operation.TheVariants.{Add, Sub}
 use Rattle.word.specs.declared.Operation.TheVariants as operation
@@ -54,15 +53,15 @@ pub record SharperFacts (a' a : Facts) : Type 0 where
 
 -- that nothing comes says more than anything that comes
 abbrev pub SharperComing : Option Facts → Option Facts → Type 0
-SharperComing none o = Unit {0}
-SharperComing (some a') none = ⊥
-SharperComing (some a') (some a) = SharperFacts a' a
+SharperComing None o = Unit {0}
+SharperComing (Some a') None = ⊥
+SharperComing (Some a') (Some a) = SharperFacts a' a
 
 -- what goes to a target goes to the same one
 abbrev pub SharperThere : Option Facts → ℕ → Option Facts → ℕ → Type 0
-SharperThere none t' o t = Unit {0}
-SharperThere (some a') t' none t = ⊥
-SharperThere (some a') t' (some a) t = SharperFacts a' a × (t' ≡ t)
+SharperThere None t' o t = Unit {0}
+SharperThere (Some a') t' None t = ⊥
+SharperThere (Some a') t' (Some a) t = SharperFacts a' a × (t' ≡ t)
 
 -- where less is known, a refusal says nothing of what happens where more is known; and there nothing is refused that was not
 abbrev pub SharperFlow : Flow → Flow → Type 0

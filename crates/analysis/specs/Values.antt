@@ -1,6 +1,5 @@
 -- What is known of the registers at an index, and what covers two such states where paths meet.
-use Rattle.std.specs.Prelude.{List, [], ◌∷◌, ℕ, get_or}
-use Rattle.std.proofs.Math.Option.{Option, none, some}
+use Rattle.std.specs.Prelude.{List, [], ◌∷◌, ℕ, get_or, Option, Some, None}
 use Rattle.machine.specs.declared.instruction.Operand.{Operand}
 use Rattle.machine.specs.declared.instruction.Operand.TheVariants.{Immediate, Register}
 use Rattle.number.specs.declared.Number.{Number}
@@ -64,5 +63,5 @@ joined_facts a b = record { registers = joined_values a.registers b.registers }
 
 -- what waits for an index, if a path comes there, and what comes now
 unfoldable pub meeting : Option Facts → Facts → Facts
-meeting none b = b
-meeting (some a) b = joined_facts a b
+meeting None b = b
+meeting (Some a) b = joined_facts a b

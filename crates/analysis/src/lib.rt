@@ -5,21 +5,22 @@
 use machine::instruction::Operand;
 use number::{Number, Refined};
 
-// Why a program is refused, in the order of the numbers in docs/VERIFIER.md.
+// Why a program is refused, by its number in docs/VERIFIER.md.
 #[derive(Clone, Copy)]
 pub enum Reason {
-    BadLength,
-    LongRecord,
-    NoCode,
-    WritesR10,
-    JumpsBack,
-    JumpsOut,
-    ReadsUnset,
-    Outside,
-    LeaksAddress,
-    DeadCode,
+    BadLength = 1,
+    LongRecord = 2,
+    NoCode = 3,
+    WritesR10 = 4,
+    JumpsBack = 5,
+    JumpsOut = 6,
+    ReadsUnset = 7,
+    Outside = 8,
+    LeaksAddress = 9,
+    DeadCode = 12,
 }
 
+// Kept: a refusal is a proper answer, which no caller passes on by `?`; theorems and docs/VERIFIER.md say Accepted and Refused, not Ok(()).
 #[derive(Clone, Copy)]
 pub enum Finding {
     Accepted,
@@ -33,12 +34,14 @@ pub struct Judged {
     pub work: u64,
 }
 
-// What a verifier says of a program that is given to it with memory to work in.
+// The memory that a verifier is given to work in does not hold so many words.
 #[derive(Clone, Copy)]
-pub enum Answer {
-    Judgement(Judged),
-    ScratchTooSmall { words: u64 },
+pub struct ScratchTooSmall {
+    pub words: u64,
 }
+
+// What a verifier says of a program that is given to it with memory to work in.
+pub type Answer = Result<Judged, ScratchTooSmall>;
 
 #[derive(Clone, Copy)]
 pub enum Region {

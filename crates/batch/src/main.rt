@@ -2,232 +2,146 @@
 // Assumes that input ends within 2^64 reads; a read or a write that fails counts as the end of what it moves.
 #![tactic(auto)]
 
-ghost use Rattle.std.specs.Prelude.{◌+◌, ◌≤◌, length};
+ghost use Rattle.std.specs.Prelude.{◌≤◌, length, IfSome};
 
 use console::answer::{LONGEST, respond};
 use std::io::Read;
-use text::scan::find;
 use waiting::MOST_WORDS;
 
-// Where the first line to be answered starts, and whether the line that was too long goes on past what was read.
-#[derive(Clone, Copy)]
-struct Front {
-    from: usize,
-    long: bool,
+// The memory that requests are answered in: for a program, a record, a stack and the verifier, and for answers, of which the first
+// `waiting` bytes are not written yet.
+#[derive(Drop)]
+struct Memory<'a> {
+    program: &'a mut [u8],
+    rec: &'a mut [u8],
+    stack: &'a mut [u8],
+    scratch: &'a mut [u64],
+    out: &'a mut [u8],
+    waiting: usize,
+    ghost inside: { waiting ≤ length out.now },
 }
 
-// How many bytes of a line stand at the front of the window, and whether a line that was too long goes on past them.
-#[derive(Clone, Copy)]
-struct Held {
-    count: usize,
-    long: bool,
-}
-
-// Reads once behind `end`, and answers how many bytes came.
-fn refill<I: Read>(input: &mut I, window: &mut [u8], end: usize) -> usize
-    requires { end ≤ length window.old }
-    ensures { end + result ≤ length window.old }
-{
-    match input.read(&mut window[end..]) {
-        Ok(n) => n,
-        Err(_) => 0,
+impl Memory<'_> {
+    // Writes what waits.
+    fn flush(&mut self, rt: &impl Print) {
+        let _ = rt.write_all(&self.out[..self.waiting]);
+        self.waiting = 0;
     }
-}
 
-// Moves the bytes from `at` up to `end` to the front.
-fn slide(window: &mut [u8], at: usize, end: usize)
-    requires { (at ≤ end) × (end ≤ length window.old) }
-{
-    if at == 0 {
-        return;
-    }
-    let mut i = at;
-    while i < end {
-        window[i - at] = window[i];
-        i += 1;
-    }
-}
-
-fn flush(rt: &impl Print, out: &[u8], n: usize)
-    requires { n ≤ length out.now }
-{
-    let _ = rt.write_all(&out[0..n]);
-}
-
-// Writes what waits, where less than an answer's room is left, and answers how many bytes wait now.
-fn spare(rt: &impl Print, out: &[u8], n: usize) -> usize
-    requires { n ≤ length out.now }
-    ensures { result ≤ length out.now }
-{
-    if out.len() - n < 64 {
-        flush(rt, out, n);
-        return 0;
-    }
-    n
-}
-
-// Answers the whole lines from `at` up to `end`, and answers where the first line starts that is not whole.
-fn answer_lines(
-    rt: &impl Print,
-    window: &[u8],
-    at: usize,
-    end: usize,
-    program: &mut [u8],
-    rec: &mut [u8],
-    stack: &mut [u8],
-    scratch: &mut [u64],
-    out: &mut [u8],
-) -> usize
-    requires { (at ≤ end) × (end ≤ length window.now) }
-    ensures { (at ≤ result) × (result ≤ end) }
-{
-    let mut from = at;
-    let mut o = 0;
-    while from < end {
-        let stop = find(&window[0..end], from, b'\n');
-        if stop >= end {
-            flush(rt, out, o);
-            return from;
+    // Answers a line. What waits is written where less than an answer's room is left.
+    fn answer(&mut self, rt: &impl Print, line: &[u8]) {
+        self.waiting = respond(
+            line,
+            self.program,
+            self.rec,
+            self.stack,
+            self.scratch,
+            self.out,
+            self.waiting,
+        );
+        if self.out.len() - self.waiting < 64 {
+            self.flush(rt);
         }
-        o = respond(&window[from..stop], program, rec, stack, scratch, out, o);
-        o = spare(rt, out, o);
-        from = stop + 1;
     }
-    flush(rt, out, o);
-    from
-}
 
-// A line that was too long has its answer already: what is left of it is passed over.
-fn past_long(window: &[u8], end: usize, long: bool) -> Front
-    requires { end ≤ length window.now }
-    ensures { result.from ≤ end }
-{
-    if !long {
-        return Front {
-            from: 0,
-            long: false,
-        };
-    }
-    let stop = find(&window[0..end], 0, b'\n');
-    if stop < end {
-        return Front {
-            from: stop + 1,
-            long: false,
-        };
-    }
-    Front {
-        from: end,
-        long: true,
+    // Answers the whole lines, and answers how many bytes stand behind them.
+    fn answer_lines(&mut self, rt: &impl Print, lines: &[u8]) -> usize
+        ensures { result ≤ length lines.now }
+    {
+        let mut rest = lines;
+        while let Some(end) = rest.iter().position(|b| *b == b'\n') {
+            self.answer(rt, &rest[..end]);
+            rest = &rest[end + 1..];
+        }
+        self.flush(rt);
+        rest.len()
     }
 }
 
-// A line that is too long before its end is seen is answered here, and nothing of it is kept.
-fn kept(rt: &impl Print, held: usize) -> usize
-    ensures { result ≤ held }
-{
-    if held > LONGEST {
-        let _ = rt.write_all(b"error\n");
-        return 0;
-    }
-    held
-}
-
-// The last line, where it has no line end.
-fn last(
-    rt: &impl Print,
-    window: &[u8],
+// What was read and is not answered: the first `held` bytes.
+#[derive(Drop)]
+struct Window<'a> {
+    bytes: &'a mut [u8],
     held: usize,
-    program: &mut [u8],
-    rec: &mut [u8],
-    stack: &mut [u8],
-    scratch: &mut [u64],
-    out: &mut [u8],
-)
-    requires { held ≤ length window.now }
-{
-    if held > 0 {
-        let o = respond(&window[0..held], program, rec, stack, scratch, out, 0);
-        flush(rt, out, o);
-    }
-}
-
-// Answers the whole lines up to `end`, and moves what is left to the front.
-fn advance(
-    rt: &impl Print,
-    window: &mut [u8],
-    end: usize,
+    // They go on with a line that was too long, and has its answer already.
     long: bool,
-    program: &mut [u8],
-    rec: &mut [u8],
-    stack: &mut [u8],
-    scratch: &mut [u64],
-    out: &mut [u8],
-) -> Held
-    requires { end ≤ length window.old }
-    ensures { result.count ≤ end }
-{
-    let front = past_long(window, end, long);
-    let from = front.from;
-    let rest = answer_lines(rt, window, from, end, program, rec, stack, scratch, out);
-    slide(window, rest, end);
-    let long = front.long | (end - rest > LONGEST);
-    let count = kept(rt, end - rest);
-    Held { count, long }
+    ghost inside: { held ≤ length bytes.now },
 }
 
-// Reads and answers until the input ends.
-fn serve(
-    rt: &(impl Input + Print),
-    window: &mut [u8],
-    program: &mut [u8],
-    rec: &mut [u8],
-    stack: &mut [u8],
-    scratch: &mut [u64],
-    out: &mut [u8],
-) {
-    let mut input = rt.reader();
-    let mut turns = u64::MAX;
-    let mut held = 0;
-    let mut long = false;
-    while turns > 0 {
-        turns -= 1;
-        let n = refill(&mut input, window, held);
-        if n == 0 {
-            last(rt, window, held, program, rec, stack, scratch, out);
+impl Window<'_> {
+    // Reads once behind what is held, and answers whether anything came.
+    fn read<I: Read>(&mut self, input: &mut I) -> bool {
+        let n = input.read(&mut self.bytes[self.held..]).unwrap_or(0);
+        self.held += n;
+        n > 0
+    }
+
+    // Where the first line to be answered starts: what is left of a line that was too long is passed over.
+    fn start(&self) -> Option<usize>
+        ensures { IfSome result (λ start. start ≤ self.now.held) }
+    {
+        if !self.long {
+            return Some(0);
+        }
+        let end = self.bytes[..self.held].iter().position(|b| *b == b'\n')?;
+        Some(end + 1)
+    }
+
+    // Answers the whole lines, and moves what is left to the front. A line that is too long before its end is seen is answered here, and
+    // nothing of it is kept.
+    fn advance(&mut self, rt: &impl Print, memory: &mut Memory<'_>) {
+        let Some(start) = self.start() else {
+            self.held = 0;
+            return;
+        };
+        let left = memory.answer_lines(rt, &self.bytes[start..self.held]);
+        self.long = left > LONGEST;
+        if self.long {
+            let _ = rt.write_all(b"error\n");
+            self.held = 0;
             return;
         }
-        let left = advance(
-            rt,
-            window,
-            held + n,
-            long,
-            program,
-            rec,
-            stack,
-            scratch,
-            out,
-        );
-        held = left.count;
-        long = left.long;
+        self.bytes.copy_within(self.held - left..self.held, 0);
+        self.held = left;
+    }
+}
+
+// Reads and answers until the input ends: at its end a line may have no line end.
+fn serve(rt: &(impl Input + Print), window: &mut Window<'_>, memory: &mut Memory<'_>) {
+    let mut input = rt.reader();
+    for _ in 0..u64::MAX {
+        if !window.read(&mut input) {
+            if window.held > 0 {
+                memory.answer(rt, &window.bytes[..window.held]);
+                memory.flush(rt);
+            }
+            return;
+        }
+        window.advance(rt, memory);
     }
 }
 
 // The window takes in the longest line, and a good part of the next. A line's hex has half as many bytes as the line has characters.
 // Scratch memory is enough for every program that passes the tests on form.
 fn main(rt: HostRuntime) {
-    let mut window = [0u8; 131072];
+    let mut bytes = [0u8; 131072];
     let mut program = [0u8; 35000];
     let mut rec = [0u8; 35000];
     let mut stack = [0u8; 512];
     let mut scratch = [0u64; MOST_WORDS];
     let mut out = [0u8; 65536];
-    serve(
-        &rt,
-        &mut window,
-        &mut program,
-        &mut rec,
-        &mut stack,
-        &mut scratch,
-        &mut out,
-    );
+    let mut window = Window {
+        bytes: &mut bytes,
+        held: 0,
+        long: false,
+    };
+    let mut memory = Memory {
+        program: &mut program,
+        rec: &mut rec,
+        stack: &mut stack,
+        scratch: &mut scratch,
+        out: &mut out,
+        waiting: 0,
+    };
+    serve(&rt, &mut window, &mut memory);
 }

@@ -2,15 +2,15 @@
 use mathlib.Core.Path.{◌≡◌, sym, ap, ◌∙◌}
 use Prim.Native.Nat.{ℕ, ◌+◌, ◌-◌, ◌*◌, ◌/◌, ◌%◌, ◌^◌, ◌≤◌, ◌<◌}
 use native.Mathlib.Omega.{arith}
-use lib.Bits.{bit_and, bit_or}
+use lib.Bits.{bit_or}
 use lib.Count.{count_trailing_zeros}
 use borrow.Author.Tests.{eq-eqb, ne_eqb}
-use Rattle.word.specs.Word.{bit}
-use Rattle.word.proofs.Bit.{bit_lt, bit_and_lem, bit_or_lem, bit_mod, bit_shl}
+use Rattle.word.specs.Word.{bit, cut}
+use Rattle.word.proofs.Bit.{bit_lt, bit_or_lem, bit_mod, bit_shl}
 use Rattle.known_bits.specs.declared.Bits.{Bits}
 use Rattle.known_bits.specs.Formula.{low, sum, joined, from_bit, placed, with_digit, low_digits, shift_and_add}
 use Rattle.known_bits.specs.Pair.{top}
-use Rattle.known_bits.proofs.Covering.{bit_of_ones, covered_has_the_low_zeros, bit_from_on}
+use Rattle.known_bits.proofs.Covering.{covered_has_the_low_zeros, bit_from_on}
 use Rattle.known_bits.proofs.ShiftAndAdd.{unknown_absorbs_the_rest}
 
 module _ (a b : Bits) (k : ℕ) (r : Bits) where
@@ -35,9 +35,10 @@ module _ (a b : Bits) (k : ℕ) (r : Bits) where
   an_unknown_digit_may_be_added n = simp (ne_eqb _ _ n)
 
 -- the code tests the low w of the bits from b's lowest on, k places up
-pub tested_unknown_absorbs : (a b r : Bits) (k n all w : ℕ) → r ≡ low_digits 64 a b k → n ≡ from_bit (count_trailing_zeros 64 (top b))
-    → bit_or (bit_and ((n * 2 ^ k) % 2 ^ 64) all) r.mask ≡ r.mask → k ≤ 64 → w ≤ 64 → all ≡ 2 ^ w - 1 → low w r ≡ low w (shift_and_add 64 a b)
-tested_unknown_absorbs a b r k n all w er en t l small ea =
+pub tested_unknown_absorbs : (a b r : Bits) (k n w : ℕ) → r ≡ low_digits 64 a b k → n ≡ from_bit (count_trailing_zeros 64 (top b))
+    → bit_or (cut w ((n * 2 ^ k) % 2 ^ 64)) r.mask ≡ r.mask → k ≤ 64 → w ≤ 64 → low w r ≡ low w (shift_and_add 64 a b)
+unfolding cut
+tested_unknown_absorbs a b r k n w er en t l small =
     ap (low w) er
     ∙ unknown_absorbs_the_rest w small a b (count_trailing_zeros 64 (top b))
     (covered_has_the_low_zeros (top b) b.value (record { zeros = λ i z. omega (arith, bit_or_lem i b.value b.mask) }))
@@ -55,10 +56,8 @@ tested_unknown_absorbs a b r k n all w er en t l small ea =
         ∙ omega (
           arith,
           ap (bit i) t,
-          bit_or_lem i (bit_and ((n * 2 ^ k) % 2 ^ 64) all) r.mask,
-          bit_and_lem i ((n * 2 ^ k) % 2 ^ 64) all,
+          bit_or_lem i ((n * 2 ^ k) % 2 ^ 64 % 2 ^ w) r.mask,
+          bit_mod w i ((n * 2 ^ k) % 2 ^ 64) h,
           reached i g (omega arith),
-          ap (bit i) ea,
-          bit_of_ones w i h,
           bit_lt i r.mask,
         )

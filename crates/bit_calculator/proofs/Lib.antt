@@ -1,3 +1,4 @@
 pub mod AddedDigits
 pub mod ProductCuts
+pub mod Widths
 pub mod Words

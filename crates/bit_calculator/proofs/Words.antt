@@ -1,30 +1,33 @@
 -- Laws of words that the code asks for: what fits, and how far a shift goes.
-use mathlib.Core.Path.{◌≡◌}
-use Prim.Native.Nat.{ℕ, zero, suc, ◌+◌, ◌-◌, ◌*◌, ◌/◌, ◌%◌, ◌^◌, ◌≤◌, ◌<◌}
-use native.Mathlib.Nat.{le-div_iff_mul-le}
-use native.Mathlib.Omega.{arith}
-use lib.Count.{count_leading_zeros, leading_length}
-use lib.Pow.{pow_pos, pow-lt}
+use Rattle.std.proofs.Common.{◌≡◌, ℕ, ◌⊎◌, ◌+◌, ◌-◌, ◌*◌, ◌%◌, ◌^◌, ◌≤◌, ◌<◌, min, ltb, subst, pow_pos, ◌∙◌, arith}
+use Rattle.std.proofs.Math.Pow.{not_mod, pow-lt}
+use Rattle.std.proofs.lemmas.Bool.{ltb-true, ltb-false}
+use Rattle.word.specs.Word.{cut}
+use Rattle.word.proofs.Widths.{fits_a_word}
+use Rattle.known_bits.specs.Formula.{highest_product}
+use Rattle.known_bits.proofs.Base.{by_cases}
 
--- ---- products
-pub product_of_the_greatest_fits : (t u : ℕ) → 0 < u → t ≤ (2 ^ 64 - 1) / u → t * u < 2 ^ 64
-product_of_the_greatest_fits t u h l = omega (arith, (le-div_iff_mul-le {k = u} {x = t} {y = 2 ^ 64 - 1} h).0 l)
+-- a product, kept at the greatest word
+pub saturated_product : (t u : ℕ) → min (t * u) (2 ^ 64 - 1) ≡ highest_product t u
+unfolding highest_product
+saturated_product t u =
+    by_cases (λ (n : ℕ). min (t * u) (2 ^ 64 - 1) ≡ n) (ltb (t * u) (2 ^ 64))
+    (λ e. omega (arith, ltb-true (t * u) (2 ^ 64) e)) (λ e. omega (arith, ltb-false (t * u) (2 ^ 64) e))
 
-pub product_that_wraps : (t u : ℕ) → 0 < u → (t ≤ (2 ^ 64 - 1) / u → ⊥) → 2 ^ 64 ≤ t * u
-product_that_wraps t u h w =
-    let g : t * u ≤ 2 ^ 64 - 1 → ⊥ = λ l. w ((le-div_iff_mul-le {k = u} {x = t} {y = 2 ^ 64 - 1} h).1 l) in omega arith
-
--- ---- powers of two
 pub one_shifted_is_the_power : (n : ℕ) → n < 64 → (1 * 2 ^ n) % 2 ^ 64 ≡ 2 ^ n
 one_shifted_is_the_power n l = let h : 2 ^ n < 2 ^ 64 = pow-lt l in omega arith
 
-pub one_shifted_is_not_zero : (n : ℕ) → n < 64 → 0 < (1 * 2 ^ n) % 2 ^ 64
-one_shifted_is_not_zero n l = omega (arith, one_shifted_is_the_power n l, pow_pos n)
+less_none : (n : ℕ) → n - 0 ≡ n
+less_none n = omega arith
 
--- a number that is not 0 has less than 64 zeros above its highest bit
-pub leading_zeros_below_64 : (t : ℕ) → t < 2 ^ 64 → 0 < t → count_leading_zeros 64 t < 64
-leading_zeros_below_64 t h p = let s = leading_length 64 t h in go s.0 s.1 s.2
-  where
-    go : (m : ℕ) → count_leading_zeros 64 t + m ≡ 64 → t < 2 ^ m → count_leading_zeros 64 t < 64
-    go zero e l = absurd (omega arith)
-    go (suc m) e l = omega arith
+-- all bits of a width
+all_of_a_width : (w : ℕ) → w ≤ 64 → cut w (2 ^ 64 - 1) ≡ 2 ^ w - 1
+unfolding cut
+all_of_a_width w l =
+    let e : (64 - w) + w ≡ 64 = omega arith in
+    let h : (2 ^ ((64 - w) + w) - 1 - 0) % 2 ^ w ≡ 2 ^ w - 1 - 0 = not_mod {a = 0} (64 - w) w (pow_pos w) in
+    subst (λ (n : ℕ). (2 ^ n - 1) % 2 ^ w ≡ 2 ^ w - 1) e (rw (less_none (2 ^ ((64 - w) + w) - 1), less_none (2 ^ w - 1)) at h)
+
+-- the greatest number of a width, as the code cuts it from the greatest word
+pub greatest_of_a_width : {w x : ℕ} → (w ≡ 64) ⊎ ((w ≡ 32) ⊎ (w ≡ 16)) → x ≡ cut w (2 ^ 64 - 1) → x ≡ 2 ^ w - 1
+greatest_of_a_width {w = w} known e = e ∙ all_of_a_width w (fits_a_word known)

@@ -1,54 +1,33 @@
 // AND, OR and XOR. The least and the greatest numbers give the least and the greatest digits of AND and OR.
-// At 32 bits for operands that are cut.
+#![tactic(auto, unfolding(known_bits::specs::Formula::digits, known_bits::specs::Formula::parity))]
+
 ghost use Rattle.std.specs.Prelude.{◌≡◌};
 ghost use Rattle.known_bits.specs.Formula.{digits, parity};
 
 use crate::pair::pack;
 use known_bits::Bits;
-use word::Operation;
+use word::width::Width;
+use word::{Operation, arithmetic};
 
-pub fn and64(a: Bits, b: Bits) -> Bits
-    ensures { result ≡ digits 64 Operation.And a b }
+// Kept: AND and OR in two functions of one form: one over the operation would ask twice a call which it is.
+pub fn and<W: Width>(a: Bits, b: Bits) -> Bits
+    ensures { result ≡ digits W.BITS Operation.And a b }
 {
-    let s = word::arithmetic64::and64(a.value, b.value);
-    let t = word::arithmetic64::and64(a.value | a.mask, b.value | b.mask);
-    pack(s, t ^ s)
+    let least = arithmetic::and::<W>(a.value, b.value);
+    let most = arithmetic::and::<W>(a.top(), b.top());
+    pack(least, most ^ least)
 }
 
-pub fn or64(a: Bits, b: Bits) -> Bits
-    ensures { result ≡ digits 64 Operation.Or a b }
+pub fn or<W: Width>(a: Bits, b: Bits) -> Bits
+    ensures { result ≡ digits W.BITS Operation.Or a b }
 {
-    let s = word::arithmetic64::or64(a.value, b.value);
-    let t = word::arithmetic64::or64(a.value | a.mask, b.value | b.mask);
-    pack(s, t ^ s)
+    let least = arithmetic::or::<W>(a.value, b.value);
+    let most = arithmetic::or::<W>(a.top(), b.top());
+    pack(least, most ^ least)
 }
 
-pub fn xor64(a: Bits, b: Bits) -> Bits
-    ensures { result ≡ parity 64 a b }
+pub fn xor<W: Width>(a: Bits, b: Bits) -> Bits
+    ensures { result ≡ parity W.BITS a b }
 {
-    let s = word::arithmetic64::xor64(a.value, b.value);
-    pack(s, a.mask | b.mask)
-}
-
-pub fn and32(a: Bits, b: Bits) -> Bits
-    ensures { result ≡ digits 32 Operation.And a b }
-{
-    let s = word::arithmetic32::and32(a.value, b.value);
-    let t = word::arithmetic32::and32(a.value | a.mask, b.value | b.mask);
-    pack(s, t ^ s)
-}
-
-pub fn or32(a: Bits, b: Bits) -> Bits
-    ensures { result ≡ digits 32 Operation.Or a b }
-{
-    let s = word::arithmetic32::or32(a.value, b.value);
-    let t = word::arithmetic32::or32(a.value | a.mask, b.value | b.mask);
-    pack(s, t ^ s)
-}
-
-pub fn xor32(a: Bits, b: Bits) -> Bits
-    ensures { result ≡ parity 32 a b }
-{
-    let s = word::arithmetic32::xor32(a.value, b.value);
-    pack(s, a.mask | b.mask)
+    pack(arithmetic::xor::<W>(a.value, b.value), a.mask | b.mask)
 }

@@ -1,5 +1,6 @@
 // The routines that calculate with known bits, each proved equal to its formula in `known_bits`; what the formulas promise is proved
 // there. No public function has a requires: each gives the pair of its formula for any pairs, also for such as have not the form.
+// What differs with the width of the words is generic over it.
 #![tactic(auto)]
 
 pub mod bitwise;

@@ -1,10 +1,11 @@
-// What follows the ways of a program: the pair where two paths join, and the cut to 32 bits.
+// What follows the ways of a program: the pair where two paths join, and the cut to a width.
 ghost use Rattle.std.specs.Prelude.{◌≡◌};
 ghost use Rattle.known_bits.specs.Formula.{joined, low};
 ghost use Rattle.known_bits.specs.KnownBits.{Well, Sound, Best, Cuts, Either};
 
 use crate::pair::pack_spread;
 use known_bits::Bits;
+use word::width::Width;
 
 // Unknown where either is, and where the values differ. A pair without the form loses no number either.
 pub fn join(a: Bits, b: Bits) -> Bits
@@ -15,12 +16,13 @@ pub fn join(a: Bits, b: Bits) -> Bits
     pack_spread(a.value, b.value, a.value, a.mask, b.mask)
 }
 
-pub fn cut32(a: Bits) -> Bits
-    ensures value { result ≡ low 32 a }
-    ensures best { Well 64 a → Best 64 (Cuts 32 a) result }
+#[tactic(auto, unfolding(known_bits::specs::Formula::low))]
+pub fn cut<W: Width>(a: Bits) -> Bits
+    ensures value { result ≡ low W.BITS a }
+    ensures best { Well 64 a → Best 64 (Cuts W.BITS a) result }
 {
     Bits {
-        value: a.value % 4294967296,
-        mask: a.mask % 4294967296,
+        value: W::cut(a.value),
+        mask: W::cut(a.mask),
     }
 }

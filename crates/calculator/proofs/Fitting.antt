@@ -1,16 +1,11 @@
 -- Tests that the code makes by a difference, a quotient or a shift, so that nothing wraps, are those of the definitions.
-use mathlib.Core.Path.{◌≡◌, refl, sym, ap, ◌∙◌}
-use mathlib.Core.Bool.{Bool, true, false}
-use Prim.Native.Nat.{ℕ, ◌+◌, ◌-◌, ◌*◌, ◌/◌, ◌^◌, ◌≤◌, ◌<◌}
-use native.Mathlib.Nat.{mul-zero, zero-mul, div-zero, le-mul_of_pos_right, mul_comm}
+use Rattle.std.proofs.Common.{◌≡◌, Bool, true, false, ℕ, ◌+◌, ◌-◌, ◌*◌, ◌/◌, ◌^◌, ◌≤◌, ◌<◌, eqb, leb, ltb, refl, sym, ap, ◌∙◌, arith}
+use native.Mathlib.Nat.{zero-mul, div-zero, le-div_iff_mul-le, le-mul_of_pos_right, mul_comm}
 use native.Mathlib.Decide.{dec_lt}
-use native.Mathlib.Omega.{arith}
-use lib.Dec.{eqb, leb, ltb}
-use lib.Pow.{pow_mono}
+use lib.Pow.{pow_pos, pow_mono}
 use borrow.Author.Tests.{leb-true, leb-false, eqb-true, eqb-false, le-leb, lt-leb, lt-ltb, le-ltb}
 use Rattle.word.specs.Word.{alu}
 use Rattle.word.specs.declared.Operation.TheVariants.{Div}
-use Rattle.bit_calculator.proofs.Words.{product_of_the_greatest_fits, product_that_wraps}
 use Rattle.number.proofs.Results.{quotient_is, quotient_by_none}
 
 tests_agree : (t u : Bool) → (t ≡ true → u ≡ true) → (t ≡ false → u ≡ false) → t ≡ u
@@ -23,14 +18,14 @@ room_is_left x size limit h =
     (λ e. le-leb (x + size) limit (omega (arith, leb-true x (limit - size) e)))
     (λ e. lt-leb (x + size) limit (omega (arith, leb-false x (limit - size) e)))
 
-pub product_fits_by_quotient : (t u : ℕ) → 0 < u → leb t ((2 ^ 64 - 1) / u) ≡ ltb (t * u) (2 ^ 64)
-product_fits_by_quotient t u h =
-    tests_agree (leb t ((2 ^ 64 - 1) / u)) (ltb (t * u) (2 ^ 64))
-    (λ e. lt-ltb (t * u) (2 ^ 64) (product_of_the_greatest_fits t u h (leb-true t ((2 ^ 64 - 1) / u) e)))
-    (λ e. le-ltb (t * u) (2 ^ 64) (product_that_wraps t u h (λ l. omega (arith, leb-false t ((2 ^ 64 - 1) / u) e, l))))
-
-pub no_product_by_none_wraps : (t u : ℕ) → u ≡ 0 → true ≡ ltb (t * u) (2 ^ 64)
-no_product_by_none_wraps t u e = rw (e, mul-zero t)
+-- a number fits, shifted by n, if it is no more than the greatest word shifted back
+pub fits_if_shifted_back : (x n : ℕ) → leb x ((2 ^ 64 - 1) / 2 ^ n) ≡ ltb (x * 2 ^ n) (2 ^ 64)
+fits_if_shifted_back x n =
+    let h = le-div_iff_mul-le {k = 2 ^ n} {x = x} {y = 2 ^ 64 - 1} (pow_pos n) in
+    tests_agree (leb x ((2 ^ 64 - 1) / 2 ^ n)) (ltb (x * 2 ^ n) (2 ^ 64))
+    (λ e. lt-ltb (x * 2 ^ n) (2 ^ 64) (omega (arith, h.0 (leb-true x ((2 ^ 64 - 1) / 2 ^ n) e))))
+    (λ e. let out : x * 2 ^ n ≤ 2 ^ 64 - 1 → ⊥ = λ l. omega (arith, leb-false x ((2 ^ 64 - 1) / 2 ^ n) e, h.1 l) in
+    le-ltb (x * 2 ^ n) (2 ^ 64) (omega arith))
 
 -- a number that is not 0 wraps if it is shifted by 64 or more
 pub only_zero_is_shifted_far : (x n : ℕ) → 64 ≤ n → eqb x 0 ≡ ltb (x * 2 ^ n) (2 ^ 64)

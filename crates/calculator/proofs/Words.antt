@@ -1,23 +1,15 @@
--- A word is its own low 64 bits: the definitions cut to 64 bits where the code has nothing to do.
-use mathlib.Core.Path.{◌≡◌, sym, ◌∙◌}
-use Prim.Native.Nat.{◌/◌, ◌^◌, ◌<◌}
-use native.Mathlib.Nat.{mod-eq_of_lt, div-eq_of_lt}
-use lib.Bits.{or_lt}
-use borrow.Author.Tests.{eq-eqb}
-use Rattle.number.specs.declared.Range.{Range}
-use Rattle.number.specs.declared.Number.{Number}
-use Rattle.number.specs.Sharpen.{narrowed}
-use Rattle.number.specs.Computed.{block, modulo}
+-- The low bits of numbers, as the code cuts them.
+use Rattle.std.proofs.Common.{◌≡◌, ℕ, ◌-◌, ◌*◌, ◌/◌, ◌%◌, ◌<◌, ap, sym, ◌∙◌, arith}
+use Rattle.std.proofs.Math.Nat.{div-add-mod, mul-div_cancel_left}
 
-pub words_are_one_block : (r : Range) → r.lo < 2 ^ 64 → r.hi < 2 ^ 64 → r ≡ block (2 ^ 64) r
-unfolding block
-words_are_one_block r hl hh =
-    simp
-    (eq-eqb (r.lo / 2 ^ 64) (r.hi / 2 ^ 64) (div-eq_of_lt hl ∙ sym (div-eq_of_lt hh)), mod-eq_of_lt hl, mod-eq_of_lt hh)
+-- what is left of a number without its rest
+start : (m x : ℕ) → x - x % m ≡ m * (x / m)
+start m x = omega (arith, div-add-mod x m)
 
-pub word_modulo_64_bits : (n : Number) → n.range.lo < 2 ^ 64 → n.range.hi < 2 ^ 64 → n.bits.value < 2 ^ 64 → n.bits.mask < 2 ^ 64
-    → narrowed n.bits n.range ≡ modulo (2 ^ 64) n
-unfolding narrowed modulo
-word_modulo_64_bits n hl hh hv hm =
-    rw
-    (← words_are_one_block n.range hl hh, mod-eq_of_lt hv, mod-eq_of_lt (or_lt 64 n.bits.value n.bits.mask hv hm))
+-- numbers are in one block of m if it starts at the same number
+pub one_block : (m x y : ℕ) → 0 < m → x - x % m ≡ y - y % m → x / m ≡ y / m
+one_block m x y p e =
+    sym (mul-div_cancel_left (x / m) p) ∙ ap (λ (k : ℕ). k / m) (sym (start m x) ∙ e ∙ start m y) ∙ mul-div_cancel_left (y / m) p
+
+pub other_block : (m x y : ℕ) → ¬ (x - x % m ≡ y - y % m) → ¬ (x / m ≡ y / m)
+other_block m x y n e = n (start m x ∙ ap (λ (k : ℕ). m * k) e ∙ sym (start m y))

@@ -2,311 +2,220 @@
 ghost use Rattle.std.specs.Prelude.{◌≡◌};
 ghost use Rattle.number.specs.Compare as defined;
 
-use crate::operation::alu64;
-use crate::sharpen::{exactly, larger, narrow, sharpen, smaller};
+use crate::operation::alu;
+use crate::sharpen::{exactly, narrow, share, sharpen};
 use bit_calculator::learn::{jset_not_taken, meet};
-use known_bits::Learnt;
 use number::{Number, Range, Refined};
+use word::width::W64;
 use word::{Comparison, Operation};
 
 // A way on which a range is empty is excluded.
+#[tactic(auto, unfolding(number::specs::Compare::settled))]
 pub fn settle(d: Number, s: Number) -> Refined
     ensures { result ≡ defined.settled d s }
 {
-    let u = d.range;
-    let v = s.range;
-    if u.hi < u.lo {
-        return Refined::Excluded;
+    if d.range.lo <= d.range.hi && s.range.lo <= s.range.hi {
+        Some((d, s))
+    } else {
+        None
     }
-    if v.hi < v.lo {
-        return Refined::Excluded;
-    }
-    Refined::Possible(d, s)
 }
 
 // The range of a Number, as far as its known bits allow.
+#[tactic(auto, unfolding(number::specs::Compare::bounds))]
 fn bound(n: Number) -> Range
     ensures { result ≡ defined.bounds n }
 {
-    let p = n.bits;
-    let s = n.range;
-    narrow(p, s)
+    narrow(n.bits, n.range)
 }
 
-// No sum is made before it is known to be at most the greatest y.
-fn order_in(gap: u64, d: Number, s: Number, u: Range, v: Range) -> Refined
-    ensures { result ≡ defined.ordered_in gap d s u v }
-{
-    let p = d.bits;
-    let q = s.bits;
-    let from = u.lo;
-    let to = v.hi;
-    if to < gap {
-        return Refined::Excluded;
-    }
-    if to - gap < from {
-        return Refined::Excluded;
-    }
-    let hi = smaller(u.hi, to - gap);
-    let lo = larger(v.lo, from + gap);
-    let x = sharpen(p, Range { lo: from, hi });
-    let y = sharpen(q, Range { lo, hi: to });
-    settle(x, y)
-}
-
-// x + gap is at most y.
+// x + gap is at most y. No sum is made before it is known to be at most the greatest y.
+#[tactic(auto, unfolding(number::specs::Compare::ordered, number::specs::Compare::ordered_in))]
 fn order(gap: u64, d: Number, s: Number) -> Refined
     ensures { result ≡ defined.ordered gap d s }
 {
     let u = bound(d);
     let v = bound(s);
-    order_in(gap, d, s, u, v)
+    let highest = v.hi.checked_sub(gap)?;
+    if highest < u.lo {
+        return None;
+    }
+    let below = Range {
+        lo: u.lo,
+        hi: u.hi.min(highest),
+    };
+    let above = Range {
+        lo: v.lo.max(u.lo + gap),
+        hi: v.hi,
+    };
+    settle(sharpen(d.bits, below), sharpen(s.bits, above))
 }
 
 // The two numbers exchanged.
+#[tactic(auto, unfolding(number::specs::Compare::exchanged))]
 fn exchange(way: Refined) -> Refined
     ensures { result ≡ defined.exchanged way }
 {
-    match way {
-        Refined::Excluded => Refined::Excluded,
-        Refined::Possible(d, s) => Refined::Possible(s, d),
-    }
+    let (d, s) = way?;
+    Some((s, d))
 }
 
 // y + gap is at most x.
+#[tactic(auto, unfolding(number::specs::Compare::above))]
 fn order_above(gap: u64, d: Number, s: Number) -> Refined
     ensures { result ≡ defined.above gap d s }
 {
     exchange(order(gap, s, d))
 }
 
-fn share(u: Range, v: Range) -> Range
-    ensures { result ≡ defined.common u v }
-{
-    let lo = larger(u.lo, v.lo);
-    let hi = smaller(u.hi, v.hi);
-    Range { lo, hi }
-}
-
-fn equate_by(known: Learnt, t: Range) -> Refined
-    ensures { result ≡ defined.equal_by known t }
-{
-    match known {
-        Learnt::Nothing => Refined::Excluded,
-        Learnt::Pair(p) => {
-            let n = sharpen(p, t);
-            settle(n, n)
-        }
-    }
-}
-
 // Both are what the two have in common.
+#[tactic(auto, unfolding(number::specs::Compare::equal, number::specs::Compare::equal_by))]
 fn equate(d: Number, s: Number) -> Refined
     ensures { result ≡ defined.equal d s }
 {
-    let p = d.bits;
-    let q = s.bits;
-    let u = d.range;
-    let v = s.range;
-    let known = meet(p, q);
-    let t = share(u, v);
-    equate_by(known, t)
+    let bits = meet(d.bits, s.bits)?;
+    let both = sharpen(bits, share(d.range, s.range));
+    settle(both, both)
 }
 
 // A number that is no end of a range cannot be taken out of it.
+#[tactic(auto, unfolding(number::specs::Compare::without, number::specs::Compare::empty))]
 fn take_out(k: u64, u: Range) -> Range
     ensures { result ≡ defined.without k u }
 {
+    let empty = Range { lo: 1, hi: 0 };
     if u.lo == k {
         if k < u.hi {
-            return Range {
+            Range {
                 lo: k + 1,
                 hi: u.hi,
-            };
+            }
+        } else {
+            empty
         }
-        return Range { lo: 1, hi: 0 };
-    }
-    if u.hi == k {
+    } else if u.hi == k {
         if u.lo < k {
-            return Range {
+            Range {
                 lo: u.lo,
                 hi: k - 1,
-            };
+            }
+        } else {
+            empty
         }
-        return Range { lo: 1, hi: 0 };
+    } else {
+        u
     }
-    u
 }
 
 // Only a number that is known is taken out.
+#[tactic(auto, unfolding(number::specs::Compare::apart_from))]
 fn take_out_known(u: Range, v: Range) -> Range
     ensures { result ≡ defined.apart_from u v }
 {
-    if v.lo == v.hi {
-        return take_out(v.lo, u);
-    }
-    u
+    if v.lo == v.hi { take_out(v.lo, u) } else { u }
 }
 
 // A number that is known is no end of the other's range any more.
+#[tactic(auto, unfolding(number::specs::Compare::unequal))]
 fn separate(d: Number, s: Number) -> Refined
     ensures { result ≡ defined.unequal d s }
 {
-    let p = d.bits;
-    let q = s.bits;
     let u = bound(d);
     let v = bound(s);
-    let x = sharpen(p, take_out_known(u, v));
-    let y = sharpen(q, take_out_known(v, u));
-    settle(x, y)
+    settle(
+        sharpen(d.bits, take_out_known(u, v)),
+        sharpen(s.bits, take_out_known(v, u)),
+    )
 }
 
+#[tactic(auto, unfolding(number::specs::Compare::resharpened))]
 fn resharpen(n: Number) -> Number
     ensures { result ≡ defined.resharpened n }
 {
-    let p = n.bits;
-    let s = n.range;
-    sharpen(p, s)
+    sharpen(n.bits, n.range)
 }
 
-// Excluded where one is known to have a bit that the other is known to have.
-fn disjoin_by(one: Learnt, other: Learnt, d: Number, s: Number) -> Refined
-    ensures { result ≡ defined.disjoint_by one other d s }
-{
-    let u = d.range;
-    let v = s.range;
-    match one {
-        Learnt::Nothing => Refined::Excluded,
-        Learnt::Pair(p) => match other {
-            Learnt::Nothing => Refined::Excluded,
-            Learnt::Pair(q) => {
-                let x = sharpen(p, u);
-                let y = sharpen(q, v);
-                settle(x, y)
-            }
-        },
-    }
-}
-
-fn disjoin_bits(d: Number, s: Number) -> Refined
-    ensures { result ≡ defined.disjoint_of d s }
-{
-    let p = d.bits;
-    let q = s.bits;
-    let one = jset_not_taken(p, q.value);
-    let other = jset_not_taken(q, p.value);
-    disjoin_by(one, other, d, s)
-}
-
-// JSET not taken: neither has a bit that the other is known to have.
+// JSET not taken: neither has a bit that the other is known to have. Excluded where both are known to have one.
+#[tactic(auto, unfolding(number::specs::Compare::disjoint, number::specs::Compare::disjoint_of, number::specs::Compare::disjoint_by))]
 fn disjoin(d: Number, s: Number) -> Refined
     ensures { result ≡ defined.disjoint d s }
 {
     let x = resharpen(d);
     let y = resharpen(s);
-    disjoin_bits(x, y)
-}
-
-fn overlap_bits(d: Number, s: Number) -> Refined
-    ensures { result ≡ defined.overlapping_of d s }
-{
-    let p = d.bits;
-    let q = s.bits;
-    if (p.value | p.mask) & (q.value | q.mask) == 0 {
-        return Refined::Excluded;
-    }
-    settle(d, s)
+    let p = jset_not_taken(x.bits, y.bits.value)?;
+    let q = jset_not_taken(y.bits, x.bits.value)?;
+    settle(sharpen(p, x.range), sharpen(q, y.range))
 }
 
 // JSET taken: some bit in common is possible.
+#[tactic(auto, unfolding(number::specs::Compare::overlapping, number::specs::Compare::overlapping_of))]
 fn overlap(d: Number, s: Number) -> Refined
     ensures { result ≡ defined.overlapping d s }
 {
     let x = resharpen(d);
     let y = resharpen(s);
-    overlap_bits(x, y)
+    if x.bits.top() & y.bits.top() == 0 {
+        return None;
+    }
+    settle(x, y)
 }
 
 // Signed orders are the orders of the numbers moved by half the range, which is its own way back.
+#[tactic(auto, unfolding(number::specs::Compare::turned))]
 fn turn(n: Number) -> Number
     ensures { result ≡ defined.turned n }
 {
-    let half = exactly(9223372036854775808);
-    alu64(Operation::Add, n, half)
+    alu::<W64>(Operation::Add, n, exactly(1 << 63))
 }
 
+#[tactic(auto, unfolding(number::specs::Compare::firsts))]
 pub fn first_of_each(one: Refined, other: Refined) -> Refined
     ensures { result ≡ defined.firsts one other }
 {
-    match one {
-        Refined::Excluded => Refined::Excluded,
-        Refined::Possible(m, _) => match other {
-            Refined::Excluded => Refined::Excluded,
-            Refined::Possible(n, _) => Refined::Possible(m, n),
-        },
-    }
+    let (m, _) = one?;
+    let (n, _) = other?;
+    Some((m, n))
 }
 
+#[tactic(auto, unfolding(number::specs::Compare::turned_back))]
 fn turn_back(d: Number, s: Number, way: Refined) -> Refined
     ensures { result ≡ defined.turned_back d s way }
 {
-    match way {
-        Refined::Excluded => Refined::Excluded,
-        Refined::Possible(u, v) => {
-            let x = equate(d, turn(u));
-            let y = equate(s, turn(v));
-            first_of_each(x, y)
-        }
-    }
+    let (u, v) = way?;
+    first_of_each(equate(d, turn(u)), equate(s, turn(v)))
 }
 
+#[tactic(auto, unfolding(number::specs::Compare::signed_ordered))]
 fn order_signed(gap: u64, d: Number, s: Number) -> Refined
     ensures { result ≡ defined.signed_ordered gap d s }
 {
-    let way = order(gap, turn(d), turn(s));
-    turn_back(d, s, way)
+    turn_back(d, s, order(gap, turn(d), turn(s)))
 }
 
+#[tactic(auto, unfolding(number::specs::Compare::signed_above))]
 fn order_signed_above(gap: u64, d: Number, s: Number) -> Refined
     ensures { result ≡ defined.signed_above gap d s }
 {
     exchange(order_signed(gap, s, d))
 }
 
-// What is left of two Numbers on the way of a comparison that is taken.
-pub fn taken(c: Comparison, d: Number, s: Number) -> Refined
-    ensures { result ≡ defined.taken c d s }
+// What is left of two Numbers on the way of a comparison that is taken, or that is not.
+#[tactic(auto, unfolding(number::specs::Compare::refined, number::specs::Compare::taken, number::specs::Compare::not_taken))]
+pub fn refine(c: Comparison, way: bool, d: Number, s: Number) -> Refined
+    ensures { result ≡ defined.refined c way d s }
 {
-    match c {
-        Comparison::Eq => equate(d, s),
-        Comparison::Gt => order_above(1, d, s),
-        Comparison::Ge => order_above(0, d, s),
-        Comparison::Set => overlap(d, s),
-        Comparison::Ne => separate(d, s),
-        Comparison::Sgt => order_signed_above(1, d, s),
-        Comparison::Sge => order_signed_above(0, d, s),
-        Comparison::Lt => order(1, d, s),
-        Comparison::Le => order(0, d, s),
-        Comparison::Slt => order_signed(1, d, s),
-        Comparison::Sle => order_signed(0, d, s),
-    }
-}
-
-// And on the way that is not taken.
-pub fn not_taken(c: Comparison, d: Number, s: Number) -> Refined
-    ensures { result ≡ defined.not_taken c d s }
-{
-    match c {
-        Comparison::Eq => separate(d, s),
-        Comparison::Gt => order(0, d, s),
-        Comparison::Ge => order(1, d, s),
-        Comparison::Set => disjoin(d, s),
-        Comparison::Ne => equate(d, s),
-        Comparison::Sgt => order_signed(0, d, s),
-        Comparison::Sge => order_signed(1, d, s),
-        Comparison::Lt => order_above(0, d, s),
-        Comparison::Le => order_above(1, d, s),
-        Comparison::Slt => order_signed_above(0, d, s),
-        Comparison::Sle => order_signed_above(1, d, s),
+    match (c, way) {
+        (Comparison::Eq, true) | (Comparison::Ne, false) => equate(d, s),
+        (Comparison::Ne, true) | (Comparison::Eq, false) => separate(d, s),
+        (Comparison::Set, true) => overlap(d, s),
+        (Comparison::Set, false) => disjoin(d, s),
+        (Comparison::Lt, true) | (Comparison::Ge, false) => order(1, d, s),
+        (Comparison::Le, true) | (Comparison::Gt, false) => order(0, d, s),
+        (Comparison::Gt, true) | (Comparison::Le, false) => order_above(1, d, s),
+        (Comparison::Ge, true) | (Comparison::Lt, false) => order_above(0, d, s),
+        (Comparison::Slt, true) | (Comparison::Sge, false) => order_signed(1, d, s),
+        (Comparison::Sle, true) | (Comparison::Sgt, false) => order_signed(0, d, s),
+        (Comparison::Sgt, true) | (Comparison::Sle, false) => order_signed_above(1, d, s),
+        (Comparison::Sge, true) | (Comparison::Slt, false) => order_signed_above(0, d, s),
     }
 }

@@ -1,116 +1,95 @@
-// The range of each operation for two ranges. Whether a result wraps is tested by a difference, a quotient or a shift, which do not.
-ghost use Rattle.std.specs.Prelude.{◌≡◌, cond, ◌*◌, ◌^◌, ltb};
-ghost use Rattle.number.specs.Ranges as defined;
-ghost use Rattle.number.specs.Sharpen.{just, everything};
+// The range of each operation for two ranges. Whether a result wraps is tested by what does not.
+#![tactic(auto, unfolding(number::specs::Sharpen::everything))]
 
-use crate::sharpen::{larger, smaller};
+ghost use Rattle.std.specs.Prelude.{◌≡◌, ◌*◌, ◌^◌, ltb};
+ghost use Rattle.number.specs.Ranges as defined;
+ghost use Rattle.number.specs.Sharpen as sharpen;
+
 use bit_calculator::masks::up_to;
 use number::Range;
-use word::Operation;
-use word::arithmetic32::arsh32;
-use word::arithmetic64::{add64, arsh64, div64, lsh64, mod64, mul64, rsh64, sub64};
+use word::width::{W64, Width};
+use word::{Operation, by_name};
 
-fn all64() -> Range
-    ensures { result ≡ everything 64 }
+// All numbers of a width.
+pub fn everything<W: Width>() -> Range
+    ensures { result ≡ sharpen.everything W.BITS }
 {
     Range {
         lo: 0,
-        hi: 0xffff_ffff_ffff_ffff,
+        hi: W::cut(u64::MAX),
     }
 }
 
-pub fn all32() -> Range
-    ensures { result ≡ everything 32 }
+// The results of an operation that grows with both operands. Each call knows its operation: inlined, nothing is left of the choice.
+#[inline(always)]
+#[tactic(auto, unfolding(number::specs::Ranges::straight))]
+fn straight<W: Width>(op: Operation, a: Range, b: Range) -> Range
+    ensures { result ≡ defined.straight W.BITS op a b }
 {
     Range {
-        lo: 0,
-        hi: 0xffff_ffff,
+        lo: by_name::alu::<W>(op, a.lo, b.lo),
+        hi: by_name::alu::<W>(op, a.hi, b.hi),
     }
 }
 
-fn sums(a: Range, b: Range) -> Range
-    ensures { result ≡ defined.straight 64 Operation.Add a b }
+// The results of an operation that grows with the first operand and falls with the second.
+#[inline(always)]
+#[tactic(auto, unfolding(number::specs::Ranges::crossed))]
+fn crossed<W: Width>(op: Operation, a: Range, b: Range) -> Range
+    ensures { result ≡ defined.crossed W.BITS op a b }
 {
-    let lo = add64(a.lo, b.lo);
-    let hi = add64(a.hi, b.hi);
-    Range { lo, hi }
+    Range {
+        lo: by_name::alu::<W>(op, a.lo, b.hi),
+        hi: by_name::alu::<W>(op, a.hi, b.lo),
+    }
 }
 
 // No sum wraps, or every sum does.
+#[tactic(auto, unfolding(number::specs::Ranges::sum_range))]
 fn sum(a: Range, b: Range) -> Range
     ensures { result ≡ defined.sum_range a b }
 {
-    if a.hi <= 0xffff_ffff_ffff_ffff - b.hi {
-        return sums(a, b);
+    if a.hi.checked_add(b.hi).is_some() || a.lo.checked_add(b.lo).is_none() {
+        straight::<W64>(Operation::Add, a, b)
+    } else {
+        everything::<W64>()
     }
-    if 0xffff_ffff_ffff_ffff - b.lo < a.lo {
-        return sums(a, b);
-    }
-    all64()
-}
-
-fn differences(a: Range, b: Range) -> Range
-    ensures { result ≡ defined.crossed 64 Operation.Sub a b }
-{
-    let lo = sub64(a.lo, b.hi);
-    let hi = sub64(a.hi, b.lo);
-    Range { lo, hi }
 }
 
 // No difference wraps, or every difference does.
+#[tactic(auto, unfolding(number::specs::Ranges::difference_range))]
 fn difference(a: Range, b: Range) -> Range
     ensures { result ≡ defined.difference_range a b }
 {
-    if b.hi <= a.lo {
-        return differences(a, b);
+    if b.hi <= a.lo || a.hi < b.lo {
+        crossed::<W64>(Operation::Sub, a, b)
+    } else {
+        everything::<W64>()
     }
-    if a.hi < b.lo {
-        return differences(a, b);
-    }
-    all64()
 }
 
-fn negative(a: Range) -> Range
-    ensures { result ≡ defined.difference_range (just 0) a }
-{
-    let zero = Range { lo: 0, hi: 0 };
-    difference(zero, a)
-}
-
-// Whether the product of two words is a word.
-fn product_fits(t: u64, u: u64) -> bool
-    ensures { result ≡ ltb (t * u) (2 ^ 64) }
-{
-    if u == 0 {
-        return true;
-    }
-    t <= 0xffff_ffff_ffff_ffff / u
-}
-
+#[tactic(auto, unfolding(number::specs::Ranges::product_range))]
 fn product(a: Range, b: Range) -> Range
     ensures { result ≡ defined.product_range a b }
 {
-    if product_fits(a.hi, b.hi) {
-        let lo = mul64(a.lo, b.lo);
-        let hi = mul64(a.hi, b.hi);
-        return Range { lo, hi };
+    if a.hi.checked_mul(b.hi).is_some() {
+        straight::<W64>(Operation::Mul, a, b)
+    } else {
+        everything::<W64>()
     }
-    all64()
 }
 
 // The quotient by 0 is 0.
+#[tactic(auto, unfolding(number::specs::Ranges::quotient_range))]
 fn quotient(a: Range, b: Range) -> Range
     ensures { result ≡ defined.quotient_range a b }
 {
     if b.lo == 0 {
-        if b.hi == 0 {
-            return Range { lo: 0, hi: 0 };
-        }
-        return Range { lo: 0, hi: a.hi };
+        let hi = if b.hi == 0 { 0 } else { a.hi };
+        Range { lo: 0, hi }
+    } else {
+        crossed::<W64>(Operation::Div, a, b)
     }
-    let lo = div64(a.lo, b.hi);
-    let hi = div64(a.hi, b.lo);
-    Range { lo, hi }
 }
 
 // Whether all of a have one quotient by the one number of b; by 0 it is 0.
@@ -120,150 +99,91 @@ fn same_quotient(a: Range, b: Range) -> bool
     if b.lo != b.hi {
         return false;
     }
-    let first = div64(a.lo, b.lo);
-    let last = div64(a.hi, b.lo);
-    first == last
-}
-
-fn rests(a: Range, b: Range) -> Range
-    ensures { result ≡ defined.straight 64 Operation.Mod a b }
-{
-    let lo = mod64(a.lo, b.lo);
-    let hi = mod64(a.hi, b.hi);
-    Range { lo, hi }
+    let quotients = straight::<W64>(Operation::Div, a, b);
+    quotients.lo == quotients.hi
 }
 
 // The rest by 0 is the dividend, and so is the rest by a number above it.
+#[tactic(auto, unfolding(number::specs::Ranges::rest_range))]
 fn rest(a: Range, b: Range) -> Range
     ensures { result ≡ defined.rest_range a b }
 {
     if b.hi == 0 {
-        return a;
+        a
+    } else if b.lo == 0 {
+        Range { lo: 0, hi: a.hi }
+    } else if a.hi < b.lo {
+        a
+    } else if same_quotient(a, b) {
+        straight::<W64>(Operation::Mod, a, b)
+    } else {
+        Range {
+            lo: 0,
+            hi: a.hi.min(b.hi - 1),
+        }
     }
-    if b.lo == 0 {
-        return Range { lo: 0, hi: a.hi };
-    }
-    if a.hi < b.lo {
-        return a;
-    }
-    if same_quotient(a, b) {
-        return rests(a, b);
-    }
-    let hi = smaller(a.hi, b.hi - 1);
-    Range { lo: 0, hi }
-}
-
-fn either(a: Range, b: Range) -> Range
-    ensures { result ≡ defined.ranged 64 Operation.Or a b }
-{
-    let lo = larger(a.lo, b.lo);
-    let hi = up_to(a.hi | b.hi);
-    Range { lo, hi }
-}
-
-fn both(a: Range, b: Range) -> Range
-    ensures { result ≡ defined.ranged 64 Operation.And a b }
-{
-    let hi = smaller(a.hi, b.hi);
-    Range { lo: 0, hi }
-}
-
-fn parity(a: Range, b: Range) -> Range
-    ensures { result ≡ defined.ranged 64 Operation.Xor a b }
-{
-    let hi = up_to(a.hi | b.hi);
-    Range { lo: 0, hi }
 }
 
 // Whether x, shifted left by n, is a word; only 0 is where the count is no count of a word.
 fn shift_fits(x: u64, n: u64) -> bool
     ensures { result ≡ ltb (x * 2 ^ n) (2 ^ 64) }
 {
-    if n >= 64 {
-        return x == 0;
-    }
-    x <= 0xffff_ffff_ffff_ffff >> n
+    if n < 64 { x <= u64::MAX >> n } else { x == 0 }
 }
 
+#[tactic(auto, unfolding(number::specs::Ranges::left_range))]
 fn left(a: Range, c: Range) -> Range
     ensures { result ≡ defined.left_range a c }
 {
     if shift_fits(a.hi, c.hi) {
-        let lo = lsh64(a.lo, c.lo);
-        let hi = lsh64(a.hi, c.hi);
-        return Range { lo, hi };
+        straight::<W64>(Operation::Lsh, a, c)
+    } else {
+        everything::<W64>()
     }
-    all64()
-}
-
-fn right(a: Range, c: Range) -> Range
-    ensures { result ≡ defined.crossed 64 Operation.Rsh a c }
-{
-    let lo = rsh64(a.lo, c.hi);
-    let hi = rsh64(a.hi, c.lo);
-    Range { lo, hi }
 }
 
 // A number that is not negative falls with the count, a negative one grows.
-fn signed_right64(a: Range, c: Range) -> Range
-    ensures { result ≡ defined.signed_right_range 64 a c }
+#[tactic(auto, unfolding(number::specs::Ranges::signed_right_range))]
+fn signed_right<W: Width>(a: Range, c: Range) -> Range
+    ensures { result ≡ defined.signed_right_range W.BITS a c }
 {
-    if a.hi < 9223372036854775808 {
-        let lo = arsh64(a.lo, c.hi);
-        let hi = arsh64(a.hi, c.lo);
-        return Range { lo, hi };
+    let highest = W::cut(u64::MAX) / 2;
+    if a.hi <= highest {
+        crossed::<W>(Operation::Arsh, a, c)
+    } else if highest < a.lo {
+        straight::<W>(Operation::Arsh, a, c)
+    } else {
+        everything::<W>()
     }
-    if 9223372036854775808 <= a.lo {
-        let lo = arsh64(a.lo, c.lo);
-        let hi = arsh64(a.hi, c.hi);
-        return Range { lo, hi };
-    }
-    all64()
-}
-
-fn signed_right32(a: Range, c: Range) -> Range
-    ensures { result ≡ defined.signed_right_range 32 a c }
-{
-    if a.hi < 2147483648 {
-        let lo = arsh32(a.lo, c.hi);
-        let hi = arsh32(a.hi, c.lo);
-        return Range { lo, hi };
-    }
-    if 2147483648 <= a.lo {
-        let lo = arsh32(a.lo, c.lo);
-        let hi = arsh32(a.hi, c.hi);
-        return Range { lo, hi };
-    }
-    all32()
-}
-
-// Of 64 bits where it is wide, else of 32.
-fn signed_right(wide: bool, a: Range, c: Range) -> Range
-    ensures { result ≡ defined.signed_right_range (cond wide 64 32) a c }
-{
-    if wide {
-        return signed_right64(a, c);
-    }
-    signed_right32(a, c)
 }
 
 // The width matters to a signed shift only.
-pub fn ranged(wide: bool, op: Operation, a: Range, b: Range) -> Range
-    ensures { result ≡ defined.ranged (cond wide 64 32) op a b }
+#[tactic(auto, unfolding(number::specs::Ranges::ranged, number::specs::Ranges::longest, number::specs::Sharpen::just))]
+pub fn ranged<W: Width>(op: Operation, a: Range, b: Range) -> Range
+    ensures { result ≡ defined.ranged W.BITS op a b }
 {
     match op {
         Operation::Add => sum(a, b),
         Operation::Sub => difference(a, b),
         Operation::Mul => product(a, b),
         Operation::Div => quotient(a, b),
-        Operation::Or => either(a, b),
-        Operation::And => both(a, b),
+        Operation::Or => Range {
+            lo: a.lo.max(b.lo),
+            hi: up_to(a.hi | b.hi),
+        },
+        Operation::And => Range {
+            lo: 0,
+            hi: a.hi.min(b.hi),
+        },
         Operation::Lsh => left(a, b),
-        Operation::Rsh => right(a, b),
-        Operation::Neg => negative(a),
+        Operation::Rsh => crossed::<W64>(Operation::Rsh, a, b),
+        Operation::Neg => difference(Range { lo: 0, hi: 0 }, a),
         Operation::Mod => rest(a, b),
-        Operation::Xor => parity(a, b),
+        Operation::Xor => Range {
+            lo: 0,
+            hi: up_to(a.hi | b.hi),
+        },
         Operation::Mov => b,
-        Operation::Arsh => signed_right(wide, a, b),
+        Operation::Arsh => signed_right::<W>(a, b),
     }
 }

@@ -1,107 +1,101 @@
 // A Number from a pair and a range, each sharpening the other; Numbers known without a calculation, and the join.
-ghost use Rattle.std.specs.Prelude.{◌≡◌, ℕ, ◌*◌, ◌-◌, ◌^◌, min, max};
-ghost use Rattle.number.specs.Sharpen.{narrowed, learnt, sharpened, exact, loaded, joined_number};
+ghost use Rattle.std.specs.Prelude.{◌≡◌, ℕ, ◌*◌, ◌-◌, ◌^◌};
+ghost use Rattle.number.specs.Compare.{common};
 ghost use Rattle.number.specs.Computed as computed;
+ghost use Rattle.number.specs.Sharpen.{narrowed, learnt, sharpened, exact, loaded, joined_number};
 
 use bit_calculator::masks::up_to;
 use bit_calculator::paths;
 use known_bits::Bits;
 use number::{Number, Range};
 
-pub fn larger(a: u64, b: u64) -> u64
-    ensures { result ≡ max a b }
+// What two ranges have in common.
+#[tactic(auto, unfolding(number::specs::Compare::common))]
+pub fn share(u: Range, v: Range) -> Range
+    ensures { result ≡ common u v }
 {
-    if a < b { b } else { a }
-}
-
-pub fn smaller(a: u64, b: u64) -> u64
-    ensures { result ≡ min a b }
-{
-    if a < b { a } else { b }
-}
-
-// The part of a range from least to most.
-pub fn between(s: Range, least: u64, most: u64) -> Range
-    ensures { result ≡ record { lo = max s.lo least; hi = min s.hi most } }
-{
-    let lo = larger(s.lo, least);
-    let hi = smaller(s.hi, most);
-    Range { lo, hi }
+    Range {
+        lo: u.lo.max(v.lo),
+        hi: u.hi.min(v.hi),
+    }
 }
 
 // The part of a range between the least and the greatest number of a pair.
+#[tactic(auto, unfolding(number::specs::Sharpen::narrowed, number::specs::Compare::common))]
 pub fn narrow(p: Bits, s: Range) -> Range
     ensures { result ≡ narrowed p s }
 {
-    between(s, p.value, p.value | p.mask)
+    share(
+        s,
+        Range {
+            lo: p.value,
+            hi: p.top(),
+        },
+    )
 }
 
 // A pair with the leading bits that the ends of a range have in common.
+#[tactic(auto, unfolding(number::specs::Sharpen::learnt, number::specs::Sharpen::still_unknown))]
 fn learn(p: Bits, s: Range) -> Bits
     ensures { result ≡ learnt p s }
 {
-    let lo = s.lo;
-    let value = p.value;
-    let old = p.mask;
-    let mask = old & up_to(lo ^ s.hi);
+    let mask = p.mask & up_to(s.lo ^ s.hi);
     Bits {
-        value: value | (lo & (old ^ mask)),
+        value: p.value | (s.lo & (p.mask ^ mask)),
         mask,
     }
 }
 
+#[tactic(auto, unfolding(number::specs::Sharpen::sharpened))]
 pub fn sharpen(p: Bits, s: Range) -> Number
     ensures { result ≡ sharpened p s }
 {
     let first = narrow(p, s);
     let bits = learn(p, first);
-    let range = narrow(bits, first);
-    Number { bits, range }
+    Number {
+        bits,
+        range: narrow(bits, first),
+    }
 }
 
 // The number x.
+#[tactic(auto, unfolding(number::specs::Sharpen::exact, number::specs::Sharpen::just))]
 pub fn exactly(x: u64) -> Number
     ensures { result ≡ exact x }
 {
-    let bits = Bits { value: x, mask: 0 };
-    let range = Range { lo: x, hi: x };
-    Number { bits, range }
+    Number {
+        bits: Bits::exactly(x),
+        range: Range { lo: x, hi: x },
+    }
 }
 
 // What a load of k bytes gives, where last is the greatest number of as many.
+#[tactic(auto, unfolding(number::specs::Sharpen::loaded, number::specs::Sharpen::everything))]
 pub fn load(last: u64) -> Number
     ensures { (k : ℕ) → last ≡ 2 ^ (8 * k) - 1 → result ≡ loaded k }
 {
-    let bits = Bits {
-        value: 0,
-        mask: last,
-    };
-    let range = Range { lo: 0, hi: last };
-    Number { bits, range }
+    Number {
+        bits: Bits::among(last),
+        range: Range { lo: 0, hi: last },
+    }
 }
 
+#[tactic(auto, unfolding(number::specs::Sharpen::joined_number, number::specs::Sharpen::joined_range))]
 pub fn join(a: Number, b: Number) -> Number
     ensures { result ≡ joined_number a b }
 {
-    let p = a.bits;
-    let q = b.bits;
-    let s = a.range;
-    let t = b.range;
-    let bits = paths::join(p, q);
-    let lo = smaller(s.lo, t.lo);
-    let hi = larger(s.hi, t.hi);
-    let range = Range { lo, hi };
-    Number { bits, range }
+    Number {
+        bits: paths::join(a.bits, b.bits),
+        range: Range {
+            lo: a.range.lo.min(b.range.lo),
+            hi: a.range.hi.max(b.range.hi),
+        },
+    }
 }
 
 // Whether size bytes at each of these offsets lie below a limit.
 pub fn fits(offset: Number, size: u64, limit: u64) -> bool
     ensures { result ≡ computed.fits offset size limit }
 {
-    let range = offset.range;
-    let hi = range.hi;
-    if limit < size {
-        return false;
-    }
-    hi <= limit - size
+    size <= limit && offset.range.hi <= limit - size
 }

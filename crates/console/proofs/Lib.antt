@@ -1,6 +1,5 @@
-pub mod Words
-pub mod Sizing
-pub mod Naming
+pub mod Wording
+pub mod Tables
 pub mod Asking
 pub mod Serving
 pub mod Replies

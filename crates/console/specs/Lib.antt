@@ -1,3 +1,4 @@
 pub mod Request
+pub mod Naming
 pub mod Bits
 pub mod Answer

@@ -1,19 +1,20 @@
 // The answer to a request line.
-ghost use Rattle.std.specs.Prelude.{◌++◌, ◌≡◌, ◌≤◌, length, take, drop};
-ghost use Rattle.machine.specs.Machine.{interpreted};
-ghost use Rattle.text.specs.Buffer.{Put, chars, decimal, hexadecimal};
-ghost use Rattle.console.specs.Answer.{Told, Replied, Responded, run_reply, outcome_text, finding_text, reply_text};
+ghost use Rattle.std.specs.Prelude.{◌++◌, ◌≡◌, length, false, true};
+ghost use Rattle.text.specs.Buffer.{Put, chars, decimal};
+ghost use Rattle.text.specs.Page.{Wrote};
+ghost use Rattle.console.specs.Answer.{Told, Replied, Responded, answer_text, finding_text, outcome_of, outcome_text, reply_text, run_reply, verify_reply};
 ghost use Rattle.console.specs.Bits.{asked_of};
 
-use crate::bits::{Asked, read_asked, work};
-use crate::request::{Numbers, Sizes, is_word, next_word, past_four, read_bytes, read_numbers};
-use crate::verify::verify;
+use crate::bits::{named, read_asked, work};
+use crate::request::{Numbers, Words, read_bytes, read_numbers};
 use analysis::Finding;
 use interpreter::interpret;
 use known_bits::Bits;
 use machine::outcome::Outcome;
 use reasons::{fault_number, reason_number};
-use text::buffer::{put, put_decimal, put_hexadecimal, put_text};
+use text::hex::read_hex;
+use text::number::read_decimal;
+use text::page::Page;
 
 // A line with more characters is no request, whatever it says.
 pub const LONGEST: usize = 70000;
@@ -24,55 +25,66 @@ pub enum Reply {
     Ran(Outcome),
     Pair(Bits),
     Found(Finding),
-    Bad,
 }
 
-fn execute(
-    program: &[u8],
-    n: usize,
-    rec: &[u8],
-    k: usize,
-    p: u64,
-    s: u64,
-    stack: &mut [u8],
-    budget: u64,
-) -> Outcome
-    requires { (n ≤ length program.now) × (k ≤ length rec.now) }
-    ensures { result ≡ (interpreted (take n program.now) (take k rec.now) p s stack.old budget).outcome }
-{
-    interpret(&program[0..n], &rec[0..k], p, s, stack, budget)
+// What a line asks for.
+#[derive(Clone, Copy)]
+enum Verb {
+    Bits,
+    Run,
+    Verify,
 }
 
-// R P S BUDGET PROGRAM RECORD from `from` on. A record of another length than R is refused before the machine sees it.
-fn run(line: &[u8], from: usize, program: &mut [u8], rec: &mut [u8], stack: &mut [u8]) -> Reply
-    requires { from ≤ length line.now }
-    ensures { result ≡ run_reply (drop from line.now) (length program.old) (length rec.old) stack.old }
+const VERBS: [(&[u8], Verb); 3] = [
+    (b"kb", Verb::Bits),
+    (b"run", Verb::Run),
+    (b"verify", Verb::Verify),
+];
+
+// A record of another length than R is refused before the machine sees it.
+#[tactic(auto, unfolding(crate::specs::Answer::outcome_of))]
+fn execute(numbers: Numbers, program: &[u8], rec: &[u8], stack: &mut [u8]) -> Outcome
+    ensures { result ≡ outcome_of numbers program.now rec.now stack.old }
 {
-    let numbers = read_numbers(line, from);
-    let at = past_four(line, from);
-    let sizes = read_bytes(line, at, program, rec);
-    let Numbers::Are { size, p, s, budget } = numbers else {
-        return Reply::Bad;
-    };
-    let Sizes::Are { program: n, rec: k } = sizes else {
-        return Reply::Bad;
-    };
-    if size != (k as u64) {
-        return Reply::Ran(Outcome::Refused);
+    if numbers.size != rec.len() as u64 {
+        return Outcome::Refused;
     }
-    Reply::Ran(execute(program, n, rec, k, p, s, stack, budget))
+    interpret(program, rec, numbers.p, numbers.s, stack, numbers.budget)
 }
 
-// OP WIDTH v/m v/m from `from` on.
-fn bits(line: &[u8], from: usize) -> Reply
-    requires { from ≤ length line.now }
-    ensures { Told (asked_of (drop from line.now)) result }
+// R P S BUDGET PROGRAM RECORD.
+#[tactic(auto, unfolding(crate::specs::Answer::run_reply, crate::specs::Answer::due))]
+fn run(words: &mut Words<'_>, program: &mut [u8], rec: &mut [u8], stack: &mut [u8]) -> Option<Reply>
+    ensures { result ≡ run_reply words.old.rest.now (length program.old) (length rec.old) stack.old }
 {
-    let asked = read_asked(line, from);
-    let Asked::For { task, width, a, b } = asked else {
-        return Reply::Bad;
-    };
-    Reply::Pair(work(task, width, a, b))
+    let numbers = read_numbers(words)?;
+    let (program, rec) = read_bytes(words, program, rec)?;
+    Some(Reply::Ran(execute(numbers, program, rec, stack)))
+}
+
+// R PROGRAM, and no word after them. The program's bytes go to the start of `program`.
+#[tactic(auto, unfolding(crate::specs::Answer::verify_reply, crate::specs::Answer::due_finding, crate::specs::Answer::found_by))]
+fn verify(words: &mut Words<'_>, program: &mut [u8], scratch: &mut [u64]) -> Option<Reply>
+    ensures { result ≡ verify_reply words.old.rest.now (length program.old) (length scratch.old) }
+{
+    let record_length = words.take();
+    let bytes = words.take();
+    if !words.is_empty() {
+        return None;
+    }
+    let record_length = read_decimal(record_length)?;
+    let n = read_hex(bytes, program)?;
+    let judged = verifier::verify::verify(&program[..n], record_length, scratch).ok()?;
+    Some(Reply::Found(judged.finding))
+}
+
+// OP WIDTH v/m v/m.
+#[tactic(auto, using(crate::proofs::Serving::told_bad, crate::proofs::Serving::told_pair))]
+fn bits(words: &mut Words<'_>) -> Option<Reply>
+    ensures { Told (asked_of words.old.rest.now) result }
+{
+    let asked = read_asked(words)?;
+    Some(Reply::Pair(work(asked)))
 }
 
 // The first word is the verb, and each verb has its function.
@@ -82,82 +94,84 @@ fn reply_to(
     rec: &mut [u8],
     stack: &mut [u8],
     scratch: &mut [u64],
-) -> Reply
+) -> Option<Reply>
     ensures { Replied line.now (length program.old) (length rec.old) stack.old (length scratch.old) result }
 {
     if line.len() > LONGEST {
-        return Reply::Bad;
+        return None;
     }
-    let verb = next_word(line, 0);
-    let end = verb.end;
-    if is_word(line, verb, b"kb") {
-        return bits(line, end);
+    let mut words = Words { rest: line };
+    match named(&VERBS, words.take())? {
+        Verb::Bits => bits(&mut words),
+        Verb::Run => run(&mut words, program, rec, stack),
+        Verb::Verify => verify(&mut words, program, scratch),
     }
-    if is_word(line, verb, b"run") {
-        return run(line, end, program, rec, stack);
-    }
-    if is_word(line, verb, b"verify") {
-        return verify(line, end, program, scratch);
-    }
-    Reply::Bad
 }
 
 // A word and two numbers.
-fn put_pair(out: &mut [u8], at: usize, word: &[u8], a: u64, b: u64) -> usize
-    ensures { Put out.old at (word.now ++ decimal a ++ chars " " ++ decimal b) out.new result }
+#[tactic(auto, using(text::proofs::Pages::pages))]
+fn write_pair(page: &mut Page, word: &[u8], a: u64, b: u64)
+    ensures { Wrote page.old (word.now ++ decimal a ++ chars " " ++ decimal b) page.new }
 {
-    let i = put_text(out, at, word);
-    let j = put_decimal(out, i, a);
-    let k = put(out, j, b' ');
-    put_decimal(out, k, b)
+    page.number(word, a, b" ");
+    page.decimal(b);
 }
 
-fn put_outcome(out: &mut [u8], at: usize, outcome: Outcome) -> usize
-    ensures { Put out.old at (outcome_text outcome) out.new result }
+#[tactic(auto, using(text::proofs::Pages::pages), unfolding(crate::specs::Answer::outcome_text))]
+fn write_outcome(page: &mut Page, outcome: Outcome)
+    ensures { Wrote page.old (outcome_text outcome) page.new }
 {
     match outcome {
-        Outcome::Verdict { value, steps } => put_pair(out, at, b"verdict ", value, steps),
-        Outcome::Fault {
-            cause,
-            at: _,
+        Outcome::Verdict { value, steps } => write_pair(page, b"verdict ", value, steps),
+        Outcome::Fault { cause, steps, .. } => write_pair(
+            page,
+            b"fault ",
+            fault_number(cause),
             steps,
-        } => put_pair(out, at, b"fault ", fault_number(cause), steps),
-        Outcome::Budget { steps } => {
-            let i = put_text(out, at, b"budget ");
-            put_decimal(out, i, steps)
-        }
-        Outcome::Refused => put_text(out, at, b"refused"),
+        ),
+        Outcome::Budget { steps } => page.number(b"budget ", steps, b""),
+        Outcome::Refused => page.text(b"refused"),
     }
 }
 
-fn put_bits(out: &mut [u8], at: usize, value: u64, mask: u64) -> usize
-    ensures { Put out.old at (hexadecimal value ++ chars "/" ++ hexadecimal mask) out.new result }
-{
-    let i = put_hexadecimal(out, at, value);
-    let j = put(out, i, b'/');
-    put_hexadecimal(out, j, mask)
-}
-
-fn put_finding(out: &mut [u8], at: usize, finding: Finding) -> usize
-    ensures { Put out.old at (finding_text finding) out.new result }
+#[tactic(auto, using(text::proofs::Pages::pages), unfolding(crate::specs::Answer::finding_text, analysis::specs::Judged::pair))]
+fn write_finding(page: &mut Page, finding: Finding)
+    ensures { Wrote page.old (finding_text finding) page.new }
 {
     match finding {
-        Finding::Accepted => put_pair(out, at, b"", 0, 0),
-        Finding::Refused { reason, place } => {
-            put_pair(out, at, b"", reason_number(reason), place)
-        }
+        Finding::Accepted => write_pair(page, b"", 0, 0),
+        Finding::Refused { reason, place } => write_pair(page, b"", reason_number(reason), place),
     }
 }
 
-fn put_reply(out: &mut [u8], at: usize, reply: Reply) -> usize
-    ensures { Put out.old at (reply_text reply) out.new result }
+#[tactic(auto, using(text::proofs::Pages::pages), unfolding(crate::specs::Answer::answer_text, crate::specs::Answer::reply_text))]
+fn write_answer(page: &mut Page, reply: Option<Reply>)
+    ensures { Wrote page.old (answer_text reply) page.new }
 {
     match reply {
-        Reply::Ran(outcome) => put_outcome(out, at, outcome),
-        Reply::Pair(p) => put_bits(out, at, p.value, p.mask),
-        Reply::Found(finding) => put_finding(out, at, finding),
-        Reply::Bad => put_text(out, at, b"error"),
+        Some(Reply::Ran(outcome)) => write_outcome(page, outcome),
+        Some(Reply::Pair(bits)) => {
+            page.hexadecimal(bits.value);
+            page.letter(b'/');
+            page.hexadecimal(bits.mask);
+        }
+        Some(Reply::Found(finding)) => write_finding(page, finding),
+        None => page.text(b"error"),
     }
+    page.letter(b'\n');
+}
+
+// Puts the answer from `at` on: nothing where `at` is beyond `out`.
+#[tactic(auto, using(text::proofs::Puts::put_outside), unfolding(text::specs::Page::written))]
+fn put_answer(out: &mut [u8], at: usize, reply: Option<Reply>) -> usize
+    ensures { Put out.old at (answer_text reply) out.new result }
+{
+    if at > out.len() {
+        return at;
+    }
+    let mut page = Page::behind(out, at);
+    write_answer(&mut page, reply);
+    page.end()
 }
 
 // Puts the answer to a line from `at` on, with its line end: at most 50 characters, cut where `out` ends. The answer is the
@@ -174,6 +188,5 @@ pub fn respond(
     ensures { Responded line.now (length program.old) (length rec.old) stack.old (length scratch.old) out.old at out.new result }
 {
     let reply = reply_to(line, program, rec, stack, scratch);
-    let end = put_reply(out, at, reply);
-    put(out, end, b'\n')
+    put_answer(out, at, reply)
 }

@@ -1,17 +1,16 @@
 // What a request about known bits says, and the pair that it is answered with.
-ghost use Rattle.std.specs.Prelude.{◌≡◌, ◌≤◌, length, drop};
-ghost use Rattle.console.specs.Request.{Inside, part};
-ghost use Rattle.console.specs.Bits.{task_named, task_numbered, width_named, bits_of, gathered, asked_of, places, Serves};
-ghost use Rattle.console.specs.declared.bits.Task.TheVariants.{Join};
+ghost use Rattle.std.specs.Prelude.{◌≡◌};
+ghost use Rattle.console.specs.Naming.{named_in};
+ghost use Rattle.console.specs.Bits.{task_named, width_named, bits_of, asked_of, places, Serves};
 
-use crate::request::{Word, next_word};
-use bit_calculator::operation::{alu32, alu64};
-use bit_calculator::paths::{cut32, join};
+use crate::request::Words;
+use bit_calculator::operation::alu;
+use bit_calculator::paths::{cut, join};
 use known_bits::Bits;
-use text::pair::{Pair, read_pair};
-use text::scan::{same, skip};
-use text::table::position_of;
-use word::Operation;
+use machine::instruction::Width;
+use text::pair::read_pair;
+use word::width::{W32, W64};
+use word::{Operation, width};
 
 // What is done with the pairs.
 #[derive(Clone, Copy)]
@@ -21,204 +20,111 @@ pub enum Task {
     Cut,
 }
 
+// All that a request says.
 #[derive(Clone, Copy)]
-pub enum Tasks {
-    Is(Task),
-    Not,
+pub struct Asked {
+    pub task: Task,
+    pub width: Width,
+    pub a: Bits,
+    pub b: Bits,
 }
 
-#[derive(Clone, Copy)]
-pub enum Width {
-    Full,
-    Half,
+// What the word names: the value behind the first name that is the word.
+// Kept: with `iter().find(..).map(..)` the check did not close `returns`, from what `find` runs to `named_in`.
+pub fn named<T: Copy>(names: &[(&[u8], T)], word: &[u8]) -> Option<T>
+    ensures { result ≡ named_in names.now word.now }
+{
+    for (name, value) in names {
+        if word == *name {
+            return Some(*value);
+        }
+    }
+    None
 }
 
-#[derive(Clone, Copy)]
-pub enum Widths {
-    Is(Width),
-    Not,
+const TASKS: [(&[u8], Task); 15] = [
+    (b"ADD", Task::Alu(Operation::Add)),
+    (b"SUB", Task::Alu(Operation::Sub)),
+    (b"MUL", Task::Alu(Operation::Mul)),
+    (b"DIV", Task::Alu(Operation::Div)),
+    (b"OR", Task::Alu(Operation::Or)),
+    (b"AND", Task::Alu(Operation::And)),
+    (b"LSH", Task::Alu(Operation::Lsh)),
+    (b"RSH", Task::Alu(Operation::Rsh)),
+    (b"NEG", Task::Alu(Operation::Neg)),
+    (b"MOD", Task::Alu(Operation::Mod)),
+    (b"XOR", Task::Alu(Operation::Xor)),
+    (b"MOV", Task::Alu(Operation::Mov)),
+    (b"ARSH", Task::Alu(Operation::Arsh)),
+    (b"JOIN", Task::Join),
+    (b"CUT", Task::Cut),
+];
+
+#[tactic(auto, unfolding(crate::specs::Bits::task_named, crate::specs::Bits::later_task))]
+fn task_named(word: &[u8]) -> Option<Task>
+    ensures { result ≡ task_named word.now }
+{
+    named(&TASKS, word)
+}
+
+const WIDTHS: [(&[u8], Width); 2] = [(b"64", Width::Long), (b"32", Width::Short)];
+
+#[tactic(auto, unfolding(crate::specs::Bits::width_named))]
+fn width_named(word: &[u8]) -> Option<Width>
+    ensures { result ≡ width_named word.now }
+{
+    named(&WIDTHS, word)
 }
 
 // A pair of the right form: no bit is in both numbers.
-#[derive(Clone, Copy)]
-pub enum Known {
-    Is(Bits),
-    Not,
-}
-
-// All that a request says.
-#[derive(Clone, Copy)]
-pub enum Asked {
-    For {
-        task: Task,
-        width: Width,
-        a: Bits,
-        b: Bits,
-    },
-    Not,
-}
-
-// The task whose name is the text k of the table below.
-fn task_numbered(k: u64) -> Tasks
-    ensures { result ≡ task_numbered k }
+#[tactic(auto, unfolding(crate::specs::Bits::bits_of, crate::specs::Bits::apart))]
+fn bits_of(word: &[u8]) -> Option<Bits>
+    ensures { result ≡ bits_of word.now }
 {
-    match k {
-        0 => Tasks::Is(Task::Alu(Operation::Add)),
-        1 => Tasks::Is(Task::Alu(Operation::Sub)),
-        2 => Tasks::Is(Task::Alu(Operation::Mul)),
-        3 => Tasks::Is(Task::Alu(Operation::Div)),
-        4 => Tasks::Is(Task::Alu(Operation::Or)),
-        5 => Tasks::Is(Task::Alu(Operation::And)),
-        6 => Tasks::Is(Task::Alu(Operation::Lsh)),
-        7 => Tasks::Is(Task::Alu(Operation::Rsh)),
-        8 => Tasks::Is(Task::Alu(Operation::Neg)),
-        9 => Tasks::Is(Task::Alu(Operation::Mod)),
-        10 => Tasks::Is(Task::Alu(Operation::Xor)),
-        11 => Tasks::Is(Task::Alu(Operation::Mov)),
-        12 => Tasks::Is(Task::Alu(Operation::Arsh)),
-        13 => Tasks::Is(Task::Join),
-        14 => Tasks::Is(Task::Cut),
-        _ => Tasks::Not,
+    let (value, mask) = read_pair(word)?;
+    if value & mask != 0 {
+        return None;
     }
+    Some(Bits { value, mask })
 }
 
-fn task_named(s: &[u8]) -> Tasks
-    ensures { result ≡ task_named s.now }
+// OP WIDTH v/m v/m, and no word after them.
+#[tactic(auto, unfolding(crate::specs::Bits::asked_of, crate::specs::Bits::gathered))]
+pub fn read_asked(words: &mut Words<'_>) -> Option<Asked>
+    ensures { result ≡ asked_of words.old.rest.now }
 {
-    let k = position_of(
-        b"ADD\nSUB\nMUL\nDIV\nOR\nAND\nLSH\nRSH\nNEG\nMOD\nXOR\nMOV\nARSH\nJOIN\nCUT\n",
-        15,
-        s,
-    );
-    task_numbered(k)
-}
-
-fn width_named(s: &[u8]) -> Widths
-    ensures { result ≡ width_named s.now }
-{
-    if same(s, b"64") {
-        return Widths::Is(Width::Full);
+    let task = words.take();
+    let width = words.take();
+    let a = words.take();
+    let b = words.take();
+    if !words.is_empty() {
+        return None;
     }
-    if same(s, b"32") {
-        return Widths::Is(Width::Half);
-    }
-    Widths::Not
-}
-
-fn known_of(s: &[u8]) -> Known
-    ensures { result ≡ bits_of s.now }
-{
-    let Pair::Is { first, second } = read_pair(s) else {
-        return Known::Not;
-    };
-    if first & second != 0 {
-        return Known::Not;
-    }
-    Known::Is(Bits {
-        value: first,
-        mask: second,
+    Some(Asked {
+        task: task_named(task)?,
+        width: width_named(width)?,
+        a: bits_of(a)?,
+        b: bits_of(b)?,
     })
 }
 
-fn task_at(line: &[u8], word: Word) -> Tasks
-    requires { Inside word.start word.end (length line.now) }
-    ensures { result ≡ task_named (part line.now word.start word.end) }
-{
-    let start = word.start;
-    let end = word.end;
-    task_named(&line[start..end])
-}
-
-fn width_at(line: &[u8], word: Word) -> Widths
-    requires { Inside word.start word.end (length line.now) }
-    ensures { result ≡ width_named (part line.now word.start word.end) }
-{
-    let start = word.start;
-    let end = word.end;
-    width_named(&line[start..end])
-}
-
-fn known_at(line: &[u8], word: Word) -> Known
-    requires { Inside word.start word.end (length line.now) }
-    ensures { result ≡ bits_of (part line.now word.start word.end) }
-{
-    let start = word.start;
-    let end = word.end;
-    known_of(&line[start..end])
-}
-
-fn gather(task: Tasks, width: Widths, a: Known, b: Known) -> Asked
-    ensures { result ≡ gathered task width a b }
-{
-    let Tasks::Is(task) = task else {
-        return Asked::Not;
-    };
-    let Widths::Is(width) = width else {
-        return Asked::Not;
-    };
-    let Known::Is(a) = a else {
-        return Asked::Not;
-    };
-    let Known::Is(b) = b else {
-        return Asked::Not;
-    };
-    Asked::For { task, width, a, b }
-}
-
-// OP WIDTH v/m v/m from `from` on, and no word after them.
-pub fn read_asked(line: &[u8], from: usize) -> Asked
-    requires { from ≤ length line.now }
-    ensures { result ≡ asked_of (drop from line.now) }
-{
-    let first = next_word(line, from);
-    let second = next_word(line, first.end);
-    let third = next_word(line, second.end);
-    let fourth = next_word(line, third.end);
-    let end = fourth.end;
-    if skip(line, end, b' ') < line.len() {
-        return Asked::Not;
-    }
-    let task = task_at(line, first);
-    let width = width_at(line, second);
-    let a = known_at(line, third);
-    let b = known_at(line, fourth);
-    gather(task, width, a, b)
-}
-
-fn work64(task: Task, a: Bits, b: Bits) -> Bits
-    ensures { Serves task 64 a b result }
+fn work_at<W: width::Width>(task: Task, a: Bits, b: Bits) -> Bits
+    ensures { Serves task W.BITS a b result }
 {
     match task {
-        Task::Alu(op) => alu64(op, a, b),
-        Task::Join => join(a, b),
-        Task::Cut => a,
-    }
-}
-
-fn join32(a: Bits, b: Bits) -> Bits
-    ensures { Serves Join 32 a b result }
-{
-    let x = cut32(a);
-    let y = cut32(b);
-    join(x, y)
-}
-
-fn work32(task: Task, a: Bits, b: Bits) -> Bits
-    ensures { Serves task 32 a b result }
-{
-    match task {
-        Task::Alu(op) => alu32(op, a, b),
-        Task::Join => join32(a, b),
-        Task::Cut => cut32(a),
+        Task::Alu(operation) => alu::<W>(operation, a, b),
+        Task::Join => join(cut::<W>(a), cut::<W>(b)),
+        Task::Cut => cut::<W>(a),
     }
 }
 
 // The pair that answers a request.
-pub fn work(task: Task, width: Width, a: Bits, b: Bits) -> Bits
-    ensures { Serves task (places width) a b result }
+#[tactic(auto, unfolding(crate::specs::Bits::places))]
+pub fn work(asked: Asked) -> Bits
+    ensures { Serves asked.task (places asked.width) asked.a asked.b result }
 {
-    match width {
-        Width::Full => work64(task, a, b),
-        Width::Half => work32(task, a, b),
+    match asked.width {
+        Width::Long => work_at::<W64>(asked.task, asked.a, asked.b),
+        Width::Short => work_at::<W32>(asked.task, asked.a, asked.b),
     }
 }

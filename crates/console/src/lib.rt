@@ -4,4 +4,3 @@
 pub mod answer;
 pub mod bits;
 pub mod request;
-pub mod verify;

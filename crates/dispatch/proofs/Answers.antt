@@ -1,12 +1,10 @@
 -- How an answer leads on: a fault, whatever its cause, a test that passes, an effect.
-use Rattle.std.proofs.Common.{◌≡◌, ℕ, ◌+◌, ◌-◌, ◌%◌, ◌^◌, ◌<◌, Bool, true, false, cond, not, ◌||◌, List, [], length, sym, refl, ap, ◌∙◌, subst, true≢false, lit<}
+use Rattle.std.proofs.Common.{◌≡◌, ℕ, ◌+◌, ◌-◌, ◌%◌, ◌^◌, ◌<◌, Bool, true, false, cond, not, ◌||◌, List, [], length, sym, refl, ap, ◌∙◌, subst, true≢false, lit<, Option, None, Some}
 use Rattle.word.specs.Word.{write_bytes}
 use Rattle.machine.specs.declared.outcome.Cause.{Cause}
 use Rattle.machine.specs.declared.outcome.Cause.TheVariants.{BadCode, Unset, WriteR10, BadAccess}
 use Rattle.machine.specs.declared.outcome.Outcome.TheVariants.{Verdict, Fault, Budget}
 use Rattle.machine.specs.declared.instruction.Size.{Size}
-use Rattle.machine.specs.declared.memory.Loaded.{Loaded}
-use Rattle.machine.specs.declared.memory.Loaded.TheVariants.{Value, Nowhere}
 use Rattle.machine.specs.Machine.{World, State, After, goes, ends, faults, Done, put, jumped, bytes, within, after_load, after_store}
 use Rattle.machine.specs.Machine.{next as following}
 use Rattle.dispatch.specs.declared.answer.Next.{Next}
@@ -131,11 +129,11 @@ pub jump_is : (taken : Bool) (g stack : List ℕ) (live index off to : ℕ) → 
 unfolding state_of jumped
 jump_is taken g stack live index off to e = rw e
 
-pub load_found : (t : State) (dst v : ℕ) (found : Loaded) → found ≡ Value v → goes (put t dst v) ≡ after_load t dst found
+pub load_found : (t : State) (dst v : ℕ) (found : Option ℕ) → found ≡ Some v → goes (put t dst v) ≡ after_load t dst found
 unfolding after_load
 load_found t dst v found e = rw e
 
-pub load_lost : (t : State) (dst : ℕ) (found : Loaded) → found ≡ Nowhere → faults BadAccess ≡ after_load t dst found
+pub load_lost : (t : State) (dst : ℕ) (found : Option ℕ) → found ≡ None → faults BadAccess ≡ after_load t dst found
 unfolding after_load
 load_lost t dst found e = rw e
 

@@ -13,7 +13,8 @@ use Rattle.machine.specs.declared.instruction.Size.{Size}
 use Rattle.machine.specs.declared.instruction.Operand.TheVariants.{Immediate, Register}
 use Rattle.machine.specs.declared.instruction.Instruction.{Instruction}
 use Rattle.machine.specs.declared.instruction.Instruction.TheVariants.{Alu, Neg, Jump, Always, Exit, Load, Store}
-use Rattle.machine.specs.Instruction.{Fields, only, by_class, meaning, reads_operand, reads_dst, reads, writes}
+use Rattle.machine.specs.declared.instruction.Fields.{Fields}
+use Rattle.machine.specs.Instruction.{only, by_class, meaning, reads_operand, reads_dst, reads, writes}
 use Rattle.machine.specs.Machine.{World, State, After, goes, ends, faults, value, operand_value, put, jumped, bits, address, loaded, after_load, after_store, effect, is_no_instruction, names10, any_unset, obey}
 use Rattle.machine.specs.declared.outcome.Cause.TheVariants.{BadCode}
 use Rattle.machine.proofs.Opcodes.{fields_of_opcode, opcode_suffices}

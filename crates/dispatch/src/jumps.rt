@@ -3,82 +3,75 @@
 ghost use Rattle.std.specs.Prelude.{ℕ, ◌<◌, true, false, not, ◌&&◌, ◌||◌, ◌==◌};
 ghost use Rattle.word.specs.Word.{extend};
 ghost use Rattle.machine.specs.Machine.{goes, ends, jumped};
-ghost use Rattle.dispatch.specs.Represent.{is_set, guarded, Turns, Kept};
+ghost use Rattle.dispatch.specs.Represent.{is_set, guarded, Turns};
 
-use crate::answer::{Next, has};
-use word::sign::extend16;
+use crate::answer::{Next, Point, has};
+use machine::instruction::Fields;
+use word::sign::extend;
+use word::width::W16;
 
 // The index after a jump, taken or not. A taken one has its own return: that is one instruction less.
-fn go(taken: bool, off: u64, pc: u64, live: u64) -> Next
-    requires { Kept live pc }
-    ensures { Turns result live pc (λ t. goes (jumped taken t (extend 16 off))) }
+fn go(taken: bool, off: u64, at: Point) -> Next
+    ensures { Turns result at.live at.pc (λ t. goes (jumped taken t (extend 16 off))) }
 {
     if taken {
         return Next::Go {
-            pc: std::num::wrapping_add_u64(pc + 1, extend16(off)),
-            live,
+            pc: (at.pc + 1).wrapping_add(extend::<W16>(off)),
+            live: at.live,
         };
     }
-    Next::Go { pc: pc + 1, live }
+    Next::Go {
+        pc: at.pc + 1,
+        live: at.live,
+    }
 }
 
 // A jump that compares dst with imm.
-pub fn jump_immediate(taken: bool, dst: u64, src: u64, off: u64, pc: u64, live: u64) -> Next
-    requires kept { Kept live pc }
-    requires dst_bound { dst < 16 }
-    ensures { Turns result live pc (λ t. guarded (src == 0) false (not (is_set live dst)) (goes (jumped taken t (extend 16 off)))) }
+pub fn jump_immediate(taken: bool, f: Fields, at: Point) -> Next
+    requires { f.dst < 16 }
+    ensures { Turns result at.live at.pc (λ t. guarded (f.src == 0) false (not (is_set at.live f.dst)) (goes (jumped taken t (extend 16 f.off)))) }
 {
-    if !(src == 0) {
+    if f.src != 0 {
         return Next::Stop;
     }
-    if !has(live, dst) {
+    if !has(at.live, f.dst) {
         return Next::Stop;
     }
-    go(taken, off, pc, live)
+    go(taken, f.off, at)
 }
 
 // A jump that compares dst with src.
-pub fn jump_register(
-    taken: bool,
-    dst: u64,
-    src: u64,
-    imm: u64,
-    off: u64,
-    pc: u64,
-    live: u64,
-) -> Next
-    requires kept { Kept live pc }
-    requires dst_bound { (dst < 16) × (src < 16) }
-    ensures { Turns result live pc (λ t. guarded (imm == 0) false (not (is_set live dst) || not (is_set live src)) (goes (jumped taken t (extend 16 off)))) }
+pub fn jump_register(taken: bool, f: Fields, at: Point) -> Next
+    requires { (f.dst < 16) × (f.src < 16) }
+    ensures { Turns result at.live at.pc (λ t. guarded (f.imm == 0) false (not (is_set at.live f.dst) || not (is_set at.live f.src)) (goes (jumped taken t (extend 16 f.off)))) }
 {
-    if !(imm == 0) {
+    if f.imm != 0 {
         return Next::Stop;
     }
-    if !has(live, dst) {
+    if !has(at.live, f.dst) {
         return Next::Stop;
     }
-    if !has(live, src) {
+    if !has(at.live, f.src) {
         return Next::Stop;
     }
-    go(taken, off, pc, live)
+    go(taken, f.off, at)
 }
 
 // JA.
-pub fn jump_always(dst: u64, src: u64, off: u64, imm: u64, pc: u64, live: u64) -> Next
-    requires { Kept live pc }
-    ensures { Turns result live pc (λ t. guarded (dst == 0 && src == 0 && imm == 0) false false (goes (jumped true t (extend 16 off)))) }
+pub fn jump_always(f: Fields, at: Point) -> Next
+    ensures { Turns result at.live at.pc (λ t. guarded (f.dst == 0 && f.src == 0 && f.imm == 0) false false (goes (jumped true t (extend 16 f.off)))) }
 {
-    if !((dst == 0) & (src == 0) & (imm == 0)) {
+    if !((f.dst == 0) & (f.src == 0) & (f.imm == 0)) {
         return Next::Stop;
     }
-    go(true, off, pc, live)
+    go(true, f.off, at)
 }
 
 // EXIT, with the value of r0.
-pub fn exit(v: u64, dst: u64, src: u64, off: u64, imm: u64, live: u64) -> Next
-    ensures { (pc : ℕ) → Turns result live pc (λ t. guarded (dst == 0 && src == 0 && imm == 0 && off == 0) false (not (is_set live 0)) (ends v)) }
+pub fn exit(v: u64, f: Fields, live: u64) -> Next
+    ensures { (pc : ℕ) → Turns result live pc (λ t. guarded (f.dst == 0 && f.src == 0 && f.imm == 0 && f.off == 0) false (not (is_set live 0)) (ends v)) }
 {
-    if !((dst == 0) & (src == 0) & (imm == 0) & (off == 0)) {
+    if !((f.dst == 0) & (f.src == 0) & (f.imm == 0) & (f.off == 0)) {
         return Next::Stop;
     }
     if !has(live, 0) {

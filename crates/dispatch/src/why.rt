@@ -1,5 +1,7 @@
 // Why a probe stops: the cause of the fault at an index, found once, after the run has stopped, since no step carries one.
 // The order is that of docs/MACHINE.md, section 5; what passes all tests and faults can only miss the memory.
+#![tactic(auto, unfolding(machine::specs::Instruction::reads, machine::specs::Instruction::reads_operand, machine::specs::Instruction::reads_dst, machine::specs::Instruction::writes, machine::specs::Machine::is_no_instruction, machine::specs::Machine::names10, crate::specs::Represent::unset_in, crate::specs::Represent::cause_at))]
+
 ghost use Rattle.std.specs.Prelude.{◌≡◌, ℕ, ◌^◌, ◌<◌, not, List};
 ghost use Rattle.machine.specs.Instruction.{reads_operand, reads_dst, reads, writes};
 ghost use Rattle.machine.specs.Machine.{World, faults, is_no_instruction, names10, step};
@@ -42,29 +44,16 @@ fn dst_unset(live: u64, operation: Operation, dst: u64) -> bool
 fn is_none(ins: Instruction) -> bool
     ensures { result ≡ is_no_instruction ins }
 {
-    match ins {
-        Instruction::NoInstruction => true,
-        _ => false,
-    }
+    matches!(ins, Instruction::NoInstruction)
 }
 
 fn writes_r10(ins: Instruction) -> bool
     ensures { result ≡ names10 (writes ins) }
 {
     match ins {
-        Instruction::Alu {
-            width: _,
-            operation: _,
-            dst,
-            operand: _,
-        } => dst == 10,
-        Instruction::Neg { width: _, dst } => dst == 10,
-        Instruction::Load {
-            size: _,
-            dst,
-            src: _,
-            off: _,
-        } => dst == 10,
+        Instruction::Alu { dst, .. } => dst == 10,
+        Instruction::Neg { dst, .. } => dst == 10,
+        Instruction::Load { dst, .. } => dst == 10,
         _ => false,
     }
 }
@@ -74,32 +63,20 @@ fn reads_unset(live: u64, ins: Instruction) -> bool
 {
     match ins {
         Instruction::Alu {
-            width: _,
             operation,
             dst,
             operand,
+            ..
         } => dst_unset(live, operation, dst) | operand_unset(live, operand),
-        Instruction::Neg { width: _, dst } => is_unset(live, dst),
-        Instruction::Jump {
-            width: _,
-            comparison: _,
-            dst,
-            operand,
-            off: _,
-        } => is_unset(live, dst) | operand_unset(live, operand),
+        Instruction::Neg { dst, .. } => is_unset(live, dst),
+        Instruction::Jump { dst, operand, .. } => {
+            is_unset(live, dst) | operand_unset(live, operand)
+        }
         Instruction::Exit => is_unset(live, 0),
-        Instruction::Load {
-            size: _,
-            dst: _,
-            src,
-            off: _,
-        } => is_unset(live, src),
-        Instruction::Store {
-            size: _,
-            dst,
-            off: _,
-            operand,
-        } => is_unset(live, dst) | operand_unset(live, operand),
+        Instruction::Load { src, .. } => is_unset(live, src),
+        Instruction::Store { dst, operand, .. } => {
+            is_unset(live, dst) | operand_unset(live, operand)
+        }
         _ => false,
     }
 }
@@ -121,6 +98,10 @@ fn cause_of(live: u64, ins: Instruction) -> Cause
 }
 
 // The cause of the fault at pc, whatever the registers hold and memory is: it is that of the machine's step, if that faults.
+// Kept: pc and live, and no Point, since pc is any number, as in `step` of the interpreter.
+// Never inlined: what it looks at would take registers away from every step of a run.
+#[cold]
+#[inline(never)]
 pub fn why(program: &[u8], pc: u64, live: u64) -> Cause
     requires { live < 2 ^ 11 }
     ensures { (w : World) (numbers stack : List ℕ) (c : Cause) → step program.now w (state_of numbers live stack pc) ≡ faults c → result ≡ c }

@@ -1,9 +1,7 @@
 -- The registers that an instruction reads, as a list.
-use Rattle.std.specs.Prelude.{List, [], ◌∷◌, ℕ}
-use Rattle.explain.specs.declared.reads.Reads.{Reads}
-use Rattle.explain.specs.declared.reads.Reads.TheVariants.{Nobody, One, Both}
+use Rattle.std.specs.Prelude.{List, [], ◌∷◌, ℕ, Option, Some, None}
 
-unfoldable pub registers : Reads → List ℕ
-registers Nobody = []
-registers (One r) = r ∷ []
-registers (Both r s) = r ∷ s ∷ []
+unfoldable pub registers : Option (ℕ × Option ℕ) → List ℕ
+registers None = []
+registers (Some (r, None)) = r ∷ []
+registers (Some (r, Some s)) = r ∷ s ∷ []

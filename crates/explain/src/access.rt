@@ -1,146 +1,111 @@
 // A load or store that is refused: which bytes it might touch, and what would help.
 ghost use Rattle.std.specs.Prelude.{◌≤◌};
 
-use crate::clause::{
-    Clause, Detail, NO_ADDRESS, OFFSET_INSIDE, READS_BYTES, READS_THROUGH, RECORD_LIMIT,
-    STACK_LIMIT, START_FROM, TEST_ALL_BITS, TEST_INDEX, Told, WRITE_TO_STACK, WRITES_BYTES,
-    WRITES_RECORD, WRITES_THROUGH, counted, nothing, plain, said,
-};
-use analysis::{Gone, Region, Value};
-use calculator::operation::alu64;
+use crate::note::{write_count, write_note};
+use crate::place::Place;
+use analysis::{Region, Value};
+use calculator::operation::alu;
 use calculator::sharpen::exactly;
+use listing::value::write_value;
 use machine::instruction::Instruction;
 use machine::memory::byte_count;
-use number::Number;
-use verifier::inspect::{Known, register_at};
+use number::{Number, Range};
+use text::page::Page;
 use word::Operation;
+use word::width::W64;
 
-// How far the bytes reach, where the last offset is no negative number, and how many bytes the record has.
-fn record_limit(hi: u64, count: u64, record_len: u64) -> Clause
+// How far the bytes reach, where the last offset is no negative number, and how many bytes there are.
+fn write_limit(page: &mut Page, place: Place, region: Region, hi: u64, count: u64)
     requires { count ≤ 8 }
 {
-    if 9223372036854775808 <= hi {
-        return said(RECORD_LIMIT + 1, record_len, 0);
+    if hi < 1 << 63 {
+        page.number(b", up to byte ", hi + count, b"");
     }
-    said(RECORD_LIMIT, hi + count, record_len)
-}
-
-fn stack_limit(hi: u64, count: u64) -> Clause
-    requires { count ≤ 8 }
-{
-    if 9223372036854775808 <= hi {
-        return said(STACK_LIMIT + 1, 0, 0);
-    }
-    said(STACK_LIMIT, hi + count, 0)
-}
-
-fn limit(region: Region, hi: u64, count: u64, record_len: u64) -> Clause
-    requires { count ≤ 8 }
-{
     match region {
-        Region::Record => record_limit(hi, count, record_len),
-        Region::Stack => stack_limit(hi, count),
+        Region::Record => page.number(b"; the record has ", place.annotated.record_len, b""),
+        Region::Stack => page.text(b"; the stack has 512"),
     }
 }
 
 // An index that may reach as far was not tested, or only its low half was.
-fn remedy(lo: u64, hi: u64) -> u64 {
-    if lo == hi {
-        return OFFSET_INSIDE;
-    }
-    if 4294967296 <= hi {
-        return TEST_ALL_BITS;
-    }
-    TEST_INDEX
-}
-
-// `count` bytes at any of the offsets that the analysis tests: what is known of the base, and off added.
-fn places(verb: u64, count: u64, region: Region, base: Number, off: u64, record_len: u64) -> Detail
-    requires { (verb ≤ 100) × (count ≤ 8) }
-{
-    let offset = alu64(Operation::Add, base, exactly(off));
-    let lo = offset.range.lo;
-    let hi = offset.range.hi;
-    Detail {
-        before: counted(verb, count),
-        told: Told::Is(Known::Has(Value::Address(region, offset))),
-        after: limit(region, hi, count, record_len),
-        help: remedy(lo, hi),
+fn remedy(offset: Range) -> &'static [u8] {
+    if offset.lo == offset.hi {
+        b"help: use an offset that lies inside"
+    } else if offset.hi >= 1 << 32 {
+        b"help: test all 64 bits of the index first, or mask it"
+    } else {
+        b"help: test the index first, or mask it"
     }
 }
 
-fn no_address(verb: u64, n: Number) -> Detail {
-    Detail {
-        before: said(verb, 0, 0),
-        told: Told::Is(Known::Has(Value::Plain(n))),
-        after: said(NO_ADDRESS, 0, 0),
-        help: START_FROM,
+// A load or a store of `count` bytes at `off` behind an address.
+#[derive(Clone, Copy)]
+struct Access {
+    count: u64,
+    off: u64,
+    ghost few: { count ≤ 8 },
+}
+
+impl Access {
+    // The bytes at any of the offsets that the analysis tests: what is known of the base, and off added.
+    fn write_bytes(self, page: &mut Page, place: Place, verb: &[u8], region: Region, base: Number) {
+        let offset = alu::<W64>(Operation::Add, base, exactly(self.off));
+        write_note(page, verb);
+        write_count(page, self.count);
+        page.text(b" at ");
+        write_value(page, Value::Address(region, offset));
+        write_limit(page, place, region, offset.range.hi, self.count);
+        write_note(page, remedy(offset.range));
+    }
+
+    fn write_load(self, page: &mut Page, place: Place, base: Value) {
+        match base {
+            Value::Unusable(_) => {}
+            Value::Plain(n) => write_no_address(page, b"reads through a number (", n),
+            Value::Address(region, n) => self.write_bytes(page, place, b"reads ", region, n),
+        }
+    }
+
+    fn write_store(self, page: &mut Page, place: Place, base: Value) {
+        match base {
+            Value::Unusable(_) => {}
+            Value::Plain(n) => write_no_address(page, b"writes through a number (", n),
+            Value::Address(Region::Record, _) => {
+                write_note(page, b"writes into the record, which is read-only");
+                write_note(page, b"help: write to the stack, below r10");
+            }
+            Value::Address(Region::Stack, n) => {
+                self.write_bytes(page, place, b"writes ", Region::Stack, n);
+            }
+        }
     }
 }
 
-fn load(count: u64, base: Value, off: u64, record_len: u64) -> Detail
-    requires { count ≤ 8 }
-{
-    match base {
-        Value::Unusable(_) => nothing(),
-        Value::Plain(n) => no_address(READS_THROUGH, n),
-        Value::Address(region, n) => places(READS_BYTES, count, region, n, off, record_len),
-    }
+fn write_no_address(page: &mut Page, verb: &[u8], n: Number) {
+    write_note(page, verb);
+    write_value(page, Value::Plain(n));
+    page.text(b"), which is no address");
+    write_note(
+        page,
+        b"help: start from r1, the record, or from r10, the stack",
+    );
 }
 
-fn store_in(count: u64, region: Region, n: Number, off: u64) -> Detail
-    requires { count ≤ 8 }
-{
-    match region {
-        Region::Record => plain(said(WRITES_RECORD, 0, 0), WRITE_TO_STACK),
-        Region::Stack => places(WRITES_BYTES, count, region, n, off, 0),
-    }
-}
-
-fn store(count: u64, base: Value, off: u64) -> Detail
-    requires { count ≤ 8 }
-{
-    match base {
-        Value::Unusable(_) => nothing(),
-        Value::Plain(n) => no_address(WRITES_THROUGH, n),
-        Value::Address(region, n) => store_in(count, region, n, off),
-    }
-}
-
-// Register r at index i; unset where no path comes there.
-fn value_at(scratch: &[u64], n: usize, i: usize, r: u64) -> Value {
-    let known = register_at(scratch, n, i, r);
-    match known {
-        Known::Unreached => Value::Unusable(Gone::Never),
-        Known::Has(value) => value,
-    }
-}
-
-pub fn access(
-    instruction: Instruction,
-    record_len: u64,
-    scratch: &[u64],
-    n: usize,
-    i: usize,
-) -> Detail {
-    match instruction {
-        Instruction::Load {
-            size,
-            dst: _,
-            src,
-            off,
-        } => load(
-            byte_count(size) as u64,
-            value_at(scratch, n, i, src),
-            off,
-            record_len,
-        ),
-        Instruction::Store {
-            size,
-            dst,
-            off,
-            operand: _,
-        } => store(byte_count(size) as u64, value_at(scratch, n, i, dst), off),
-        _ => nothing(),
+// Nothing is told where no path comes.
+pub fn write_access(page: &mut Page, place: Place) {
+    match place.instruction() {
+        Instruction::Load { size, src, off, .. } => {
+            let count = byte_count(size) as u64;
+            if let Some(base) = place.known(src) {
+                Access { count, off }.write_load(page, place, base);
+            }
+        }
+        Instruction::Store { size, dst, off, .. } => {
+            let count = byte_count(size) as u64;
+            if let Some(base) = place.known(dst) {
+                Access { count, off }.write_store(page, place, base);
+            }
+        }
+        _ => {}
     }
 }

@@ -1,24 +1,26 @@
 // What is known of a register at an index, as text: of the state that `annotate` left there.
-ghost use Rattle.text.specs.Buffer.{Put};
-ghost use Rattle.explain.specs.Known.{told_text, PutKnown};
+ghost use Rattle.text.specs.Page.{Wrote};
+ghost use Rattle.explain.specs.Known.{told_text, Tells};
 
-use listing::value::put_value;
-use text::buffer::put_text;
-use verifier::inspect::{Known, register_at};
+use analysis::Value;
+use listing::value::write_value;
+use text::page::Page;
+use verifier::inspect::register_at;
 
-pub fn put_told(out: &mut [u8], at: usize, known: Known) -> usize
-    ensures { Put out.old at (told_text known) out.new result }
+#[tactic(auto, unfolding(crate::specs::Known::told_text))]
+pub fn write_told(page: &mut Page, known: Option<Value>)
+    ensures { Wrote page.old (told_text known) page.new }
 {
     match known {
-        Known::Unreached => put_text(out, at, b"not reached"),
-        Known::Has(value) => put_value(out, at, value),
+        Some(value) => write_value(page, value),
+        None => page.text(b"not reached"),
     }
 }
 
 // What is known of register r at index i of n. In scratch memory that has words for n indices, that is what waits at i.
-pub fn put_known(scratch: &[u64], n: usize, i: usize, r: u64, out: &mut [u8], at: usize) -> usize
-    ensures { PutKnown n scratch.now i r out.old at out.new result }
+#[tactic(auto, unfolding(crate::specs::Known::known_text))]
+pub fn write_known(page: &mut Page, scratch: &[u64], n: usize, i: usize, r: u64)
+    ensures { Tells n scratch.now i r page.old page.new }
 {
-    let known = register_at(scratch, n, i, r);
-    put_told(out, at, known)
+    write_told(page, register_at(scratch, n, i, r));
 }

@@ -1,129 +1,120 @@
 // A register that may not be read as an instruction reads it: it is unset, mixed, or holds an address; and what would help.
-ghost use Rattle.std.specs.Prelude.{◌≤◌};
-
-use crate::clause::{
-    Detail, HOLDS_ADDRESS, INSTEAD, IS_MIXED, MAY_NOT_BE, READS_UNSET, SET_IT, Told, USE_IT_BEFORE,
-    nothing, plain, said,
-};
-use crate::reads::{count, first, last, reads_of};
+use crate::known::write_told;
+use crate::note::{start_note, write_note};
+use crate::place::Place;
+use crate::reads::reads_of;
 use analysis::{Gone, Value};
 use machine::instruction::Instruction;
-use verifier::inspect::{Known, register_at};
+use text::page::Page;
 
-// What may be wrong with a register that is read.
-const FINE: u64 = 0;
+// Where an instruction reads an address that it may not.
+#[derive(Clone, Copy)]
+enum Use {
+    Arithmetic,
+    Comparison,
+    Store,
+    Verdict,
+}
 
-const UNSET: u64 = 1;
+impl Use {
+    fn of(instruction: Instruction) -> Use {
+        match instruction {
+            Instruction::Jump { .. } => Use::Comparison,
+            Instruction::Exit => Use::Verdict,
+            Instruction::Store { .. } => Use::Store,
+            _ => Use::Arithmetic,
+        }
+    }
 
-const MIXED: u64 = 2;
+    fn rule(self) -> &'static [u8] {
+        match self {
+            Use::Arithmetic => b"): it may not be used in this arithmetic",
+            Use::Comparison => b"): it may not be compared",
+            Use::Store => b"): it may not be stored",
+            Use::Verdict => b"): it may not be returned",
+        }
+    }
 
-const ADDRESS: u64 = 3;
-
-fn fault_of(value: Value) -> u64 {
-    match value {
-        Value::Unusable(gone) => match gone {
-            Gone::Never => UNSET,
-            Gone::Mixed => MIXED,
-        },
-        Value::Plain(_) => FINE,
-        Value::Address(_, _) => ADDRESS,
+    // What to do instead.
+    fn help(self) -> &'static [u8] {
+        match self {
+            Use::Arithmetic =>
+                b"help: an address may be copied and moved by a number, with 64 bits",
+            Use::Comparison => b"help: compare the number that was added to it",
+            Use::Store => b"help: keep addresses in registers",
+            Use::Verdict => b"help: return a number in r0",
+        }
     }
 }
 
-fn fault_at(scratch: &[u64], n: usize, i: usize, r: u64) -> u64 {
-    let known = register_at(scratch, n, i, r);
-    match known {
-        Known::Unreached => FINE,
-        Known::Has(value) => fault_of(value),
-    }
+fn is_unset(place: Place, r: u64) -> bool {
+    matches!(place.known(r), Some(Value::Unusable(Gone::Never)))
 }
 
-const STORED: u64 = 2;
-
-// Where an instruction reads an address that it may not, in the order of the clauses and of what to do instead: in arithmetic, a
-// comparison, a store, or as the verdict.
-fn use_of(instruction: Instruction) -> u64
-    ensures { result ≤ 3 }
-{
-    match instruction {
-        Instruction::Jump {
-            width: _,
-            comparison: _,
-            dst: _,
-            operand: _,
-            off: _,
-        } => 1,
-        Instruction::Exit => 3,
-        Instruction::Store {
-            size: _,
-            dst: _,
-            off: _,
-            operand: _,
-        } => STORED,
-        _ => 0,
-    }
+fn is_mixed(place: Place, r: u64) -> bool {
+    matches!(place.known(r), Some(Value::Unusable(Gone::Mixed)))
 }
 
-fn unset_detail(r: u64) -> Detail {
-    plain(said(READS_UNSET, r, 0), SET_IT)
-}
-
-fn mixed_detail(r: u64) -> Detail {
-    plain(said(IS_MIXED, r, 0), USE_IT_BEFORE)
-}
-
-fn address_detail(r: u64, known: Known, used: u64) -> Detail
-    requires { used ≤ 3 }
-{
-    Detail {
-        before: said(HOLDS_ADDRESS, r, 0),
-        told: Told::Is(known),
-        after: said(MAY_NOT_BE + used, 0, 0),
-        help: INSTEAD + used,
-    }
+fn is_address(place: Place, r: u64) -> bool {
+    matches!(place.known(r), Some(Value::Address(_, _)))
 }
 
 // The first of the registers read that is unset.
-pub fn unset_read(instruction: Instruction, scratch: &[u64], n: usize, i: usize) -> Detail {
-    let reads = reads_of(instruction);
-    if count(reads) == 0 {
-        return nothing();
-    }
-    let r = first(reads);
-    if fault_at(scratch, n, i, r) == UNSET {
-        return unset_detail(r);
-    }
-    unset_detail(last(reads))
+pub fn write_unset_read(page: &mut Page, place: Place) {
+    let Some((r, second)) = reads_of(place.instruction()) else {
+        return;
+    };
+    let unset = if is_unset(place, r) {
+        r
+    } else {
+        second.unwrap_or(r)
+    };
+    start_note(page);
+    page.number(
+        b"r",
+        unset,
+        b" is read, and it is unset on some path that comes here",
+    );
+    write_note(page, b"help: set it on every path before this");
 }
 
-// Of two registers that hold no mixed value the one that is an address where none may be: a store's first is one rightly.
-fn culprit(used: u64, fault: u64, r: u64, s: u64) -> u64 {
-    if used == STORED {
-        return s;
-    }
-    if fault == ADDRESS {
-        return r;
-    }
-    s
+fn write_mixed(page: &mut Page, r: u64) {
+    start_note(page);
+    page.number(
+        b"r",
+        r,
+        b" is mixed: an address on one path, something else on another",
+    );
+    write_note(
+        page,
+        b"help: use it before the paths join, or set it anew after",
+    );
 }
 
-// Of the registers read the first that is mixed, or else the first that is an address where none may be.
-pub fn leak(instruction: Instruction, scratch: &[u64], n: usize, i: usize) -> Detail {
-    let reads = reads_of(instruction);
-    if count(reads) == 0 {
-        return nothing();
+fn write_address(page: &mut Page, place: Place, r: u64, used: Use) {
+    start_note(page);
+    page.number(b"r", r, b" holds an address (");
+    write_told(page, place.known(r));
+    page.text(used.rule());
+    write_note(page, used.help());
+}
+
+// Of the registers read the first that is mixed, or else the first that is an address where none may be: a store's first is one rightly.
+pub fn write_leak(page: &mut Page, place: Place) {
+    let Some((r, second)) = reads_of(place.instruction()) else {
+        return;
+    };
+    let s = second.unwrap_or(r);
+    if is_mixed(place, r) {
+        return write_mixed(page, r);
     }
-    let r = first(reads);
-    let s = last(reads);
-    let fault = fault_at(scratch, n, i, r);
-    let other = fault_at(scratch, n, i, s);
-    if fault == MIXED {
-        return mixed_detail(r);
+    if is_mixed(place, s) {
+        return write_mixed(page, s);
     }
-    if other == MIXED {
-        return mixed_detail(s);
+    let used = Use::of(place.instruction());
+    match used {
+        Use::Store => write_address(page, place, s, used),
+        _ if is_address(place, r) => write_address(page, place, r, used),
+        _ => write_address(page, place, s, used),
     }
-    let used = use_of(instruction);
-    let told = culprit(used, fault, r, s);
-    address_detail(told, register_at(scratch, n, i, told), used)
 }

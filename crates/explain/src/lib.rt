@@ -3,13 +3,13 @@
 #![tactic(auto)]
 
 mod access;
-mod clause;
 mod effect;
 pub mod joins;
 pub mod known;
 mod leak;
 pub mod line;
-mod page;
+mod note;
+pub mod place;
 mod reads;
 mod refusal;
 mod registers;

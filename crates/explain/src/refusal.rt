@@ -1,128 +1,92 @@
 // Why a program is refused at an index: the reason, what could happen there, and what would help.
-ghost use Rattle.std.specs.Prelude.{◌≤◌, length};
-
-use crate::access::access;
-use crate::clause::{
-    BEHIND_EXIT, BEHIND_GOTO, COPY_R10, Clause, Detail, END_IN_EXIT, IS_LAST, JUMPS_BACK,
-    JUMPS_OUT, NEW_LINE, PROGRAM_BYTES, RECORD_BYTES, REFUSED, REMOVE_IT, REPEAT, SILENT, counted,
-    nothing, plain, said, write_clause, write_detail,
-};
-use crate::leak::{leak, unset_read};
-use crate::page::instruction_at;
+use crate::access::write_access;
+use crate::leak::{write_leak, write_unset_read};
+use crate::note::{start_note, write_count, write_note};
+use crate::place::Place;
 use analysis::Reason;
 use listing::rule::write_rule;
 use machine::instruction::Instruction;
-use reasons::{put_sentence, reason_number};
-use word::arithmetic64::add64;
+use reasons::{reason_number, sentence_of};
+use text::page::Page;
 
-// Writes the rule that index i breaks, where that is the reason.
-fn write_no_code(out: &mut [u8], at: usize, program: &[u8], i: usize) -> usize
-    requires { at ≤ length out.old }
-    ensures { (at ≤ result) × (result ≤ length out.old) }
-{
-    if program.len() / 8 <= i {
-        return at;
+// The rule that the bytes break, which are no instruction.
+fn write_no_code(page: &mut Page, place: Place) {
+    let bytes = place.bytes();
+    if !bytes.is_empty() {
+        start_note(page);
+        write_rule(page, bytes);
     }
-    let a = write_clause(out, at, said(NEW_LINE, 0, 0));
-    write_rule(out, a, &program[i * 8..i * 8 + 8])
 }
 
-fn last() -> Detail {
-    plain(said(IS_LAST, 0, 0), END_IN_EXIT)
+fn write_last(page: &mut Page) {
+    write_note(page, b"it is the last, and neither exit nor goto");
+    write_note(page, b"help: end the program in exit");
 }
 
 // A jump that leads out is told by its target; what is left is the last instruction.
-fn jump_out(n: usize, i: usize, off: u64) -> Detail {
-    let target = add64(add64(i as u64, 1), off);
-    if target < n as u64 {
-        return last();
+fn write_jump_out(page: &mut Page, place: Place, off: u64) {
+    let target = (place.index as u64).wrapping_add(1).wrapping_add(off);
+    let count = place.count() as u64;
+    if target < count {
+        return write_last(page);
     }
-    plain(said(JUMPS_OUT, target, n as u64), SILENT)
+    start_note(page);
+    page.number(b"it jumps to index ", target, b"");
+    page.number(b"; the program ends before index ", count, b"");
 }
 
-fn way_out(instruction: Instruction, n: usize, i: usize) -> Detail {
-    match instruction {
-        Instruction::Jump {
-            width: _,
-            comparison: _,
-            dst: _,
-            operand: _,
-            off,
-        } => jump_out(n, i, off),
-        Instruction::Always { off } => jump_out(n, i, off),
-        _ => last(),
-    }
-}
-
-fn no_way(before: Instruction, i: u64) -> Clause {
-    match before {
-        Instruction::Exit => said(BEHIND_EXIT, i, 0),
-        _ => said(BEHIND_GOTO, i, 0),
+fn write_way_out(page: &mut Page, place: Place) {
+    match place.instruction() {
+        Instruction::Jump { off, .. } | Instruction::Always { off } => {
+            write_jump_out(page, place, off);
+        }
+        _ => write_last(page),
     }
 }
 
 // Only exit and goto don't go on, and index 0 is never dead.
-fn dead(program: &[u8], i: usize) -> Detail {
-    if i == 0 {
-        return nothing();
-    }
-    plain(
-        no_way(instruction_at(program, i - 1), (i - 1) as u64),
-        REMOVE_IT,
-    )
+fn write_dead(page: &mut Page, place: Place) {
+    let Some(index) = place.index.checked_sub(1) else {
+        return;
+    };
+    write_note(page, b"no jump comes here, and the ");
+    page.text(match (Place { index, ..place }).instruction() {
+        Instruction::Exit => b"exit",
+        _ => b"goto",
+    });
+    page.number(b" at index ", index as u64, b" does not go on to it");
+    write_note(page, b"help: remove it, or jump to it");
 }
 
-// What is told by numbers alone.
-fn detail_of(program: &[u8], record_len: u64, scratch: &[u64], reason: Reason, i: usize) -> Detail {
-    let n = program.len() / 8;
-    let instruction = instruction_at(program, i);
+fn write_why(page: &mut Page, place: Place, reason: Reason) {
     match reason {
-        Reason::BadLength => plain(counted(PROGRAM_BYTES, program.len() as u64), SILENT),
-        Reason::LongRecord => plain(counted(RECORD_BYTES, record_len), SILENT),
-        Reason::NoCode => nothing(),
-        Reason::WritesR10 => plain(said(SILENT, 0, 0), COPY_R10),
-        Reason::JumpsBack => plain(said(JUMPS_BACK, 0, 0), REPEAT),
-        Reason::JumpsOut => way_out(instruction, n, i),
-        Reason::ReadsUnset => unset_read(instruction, scratch, n, i),
-        Reason::Outside => access(instruction, record_len, scratch, n, i),
-        Reason::LeaksAddress => leak(instruction, scratch, n, i),
-        Reason::DeadCode => dead(program, i),
+        Reason::BadLength => {
+            write_note(page, b"the program has ");
+            write_count(page, place.annotated.program.len() as u64);
+        }
+        Reason::LongRecord => {
+            write_note(page, b"the record has ");
+            write_count(page, place.annotated.record_len);
+        }
+        Reason::NoCode => write_no_code(page, place),
+        Reason::WritesR10 => {
+            write_note(page, b"help: r10 stays the stack's end: copy it first");
+        }
+        Reason::JumpsBack => {
+            write_note(page, b"jumps go forward only, so every program ends");
+            write_note(page, b"help: write the repetition out");
+        }
+        Reason::JumpsOut => write_way_out(page, place),
+        Reason::ReadsUnset => write_unset_read(page, place),
+        Reason::Outside => write_access(page, place),
+        Reason::LeaksAddress => write_leak(page, place),
+        Reason::DeadCode => write_dead(page, place),
     }
 }
 
-// Of bytes that are no instruction the rule is told, and of all else what stands in numbers.
-fn write_why(
-    out: &mut [u8],
-    at: usize,
-    program: &[u8],
-    record_len: u64,
-    scratch: &[u64],
-    reason: Reason,
-    i: usize,
-) -> usize
-    requires { at ≤ length out.old }
-    ensures { (at ≤ result) × (result ≤ length out.old) }
-{
-    if let Reason::NoCode = reason {
-        return write_no_code(out, at, program, i);
-    }
-    let detail = detail_of(program, record_len, scratch, reason, i);
-    write_detail(out, at, detail)
-}
-
-pub fn write_refusal(
-    out: &mut [u8],
-    at: usize,
-    program: &[u8],
-    record_len: u64,
-    scratch: &[u64],
-    reason: Reason,
-    i: usize,
-) -> usize
-    requires { at ≤ length out.old }
-    ensures { (at ≤ result) × (result ≤ length out.old) }
-{
-    let a = write_clause(out, at, said(REFUSED, reason_number(reason), 0));
-    let b = put_sentence(out, a, reason);
-    write_why(out, b, program, record_len, scratch, reason, i)
+pub fn write_refusal(page: &mut Page, place: Place, reason: Reason) {
+    start_note(page);
+    page.number(b"refused: reason ", reason_number(reason), b": ");
+    page.text(sentence_of(reason));
+    write_why(page, place, reason);
 }

@@ -12,7 +12,8 @@ use Rattle.word.specs.Word.{bit}
 use Rattle.machine.specs.declared.outcome.Cause.{Cause}
 use Rattle.machine.specs.declared.outcome.Cause.TheVariants.{OffEnd}
 use Rattle.machine.specs.declared.outcome.Outcome.TheVariants.{Verdict, Fault, Budget, Refused}
-use Rattle.machine.specs.Instruction.{Fields, fields, meaning, decode}
+use Rattle.machine.specs.declared.instruction.Fields.{Fields}
+use Rattle.machine.specs.Instruction.{fields, meaning, decode}
 use Rattle.machine.specs.Machine.{World, State, faults, Done, obey, step, runs, start, bad_program, bad_record, bad_stack, bad_address, overlap, refused, interpreted}
 use Rattle.dispatch.specs.declared.answer.Next.{Next}
 use Rattle.dispatch.specs.declared.answer.Next.TheVariants.{Go, Exit, Stop}

@@ -3,126 +3,104 @@
 #![tactic(auto)]
 
 ghost use Rattle.std.specs.Prelude.{◌≡◌, ℕ, ◌+◌, ◌≤◌, ◌<◌, ◌^◌, length, replicate};
+ghost use Rattle.machine.specs.Ground.{world_of};
 ghost use Rattle.machine.specs.Machine.{step as stepped, runs, start, bad_address, refused, interpreted};
 ghost use Rattle.machine.specs.Machine.{overlap as overlapping};
 ghost use Rattle.dispatch.specs.Represent.{LeadsOn};
 
-use dispatch::answer::Next;
+use dispatch::answer::{Next, Point};
 use dispatch::obey::obey;
 use dispatch::why::why;
-use machine::instruction::parts_at;
+use machine::instruction::fields_at;
 use machine::limits::bad_program;
+use machine::memory::Ground;
 use machine::outcome::Outcome;
 
+// Kept: pc and live, and no Point: that pc lies in reach is a Point's invariant, and here it is any number.
 // The instruction at pc, fetched and obeyed. No test asks whether dst and src are registers: sixteen numbers are kept, and one above 10 is never set.
 pub fn step(
     program: &[u8],
-    rec: &[u8],
-    p: u64,
-    s: u64,
+    ground: Ground,
     pc: u64,
     live: u64,
     regs: &mut [u64; 16],
     stack: &mut [u8],
 ) -> Next
-    requires regs_len { length regs.old ≡ 16 }
-    requires live_bound { live < 2 ^ 11 }
-    ensures { LeadsOn result regs.old regs.new stack.old stack.new live pc (λ t. stepped program.now (record { rec = rec.now; P = p; S = s }) t) }
+    requires { live < 2 ^ 11 }
+    ensures { LeadsOn result regs.old regs.new stack.old stack.new live pc (λ t. stepped program.now (world_of ground.entry) t) }
 {
     if ((program.len() / 8) as u64) <= pc {
         return Next::Stop;
     }
-    let f = parts_at(program, (pc as usize) * 8);
-    obey(
-        rec, p, s, f.opcode, f.dst, f.src, f.off, f.imm, pc, live, regs, stack,
-    )
+    let f = fields_at(program, (pc as usize) * 8);
+    obey(ground, f, Point { pc, live }, regs, stack)
 }
 
 // Steps until the probe ends or faults, or the budget is spent. Why it faults is asked once, here, and not in a step.
-fn run(program: &[u8], rec: &[u8], p: u64, s: u64, stack: &mut [u8], budget: u64) -> Outcome
-    requires s_bound { s ≤ 2 ^ 47 }
-    requires stack_value { stack.old ≡ replicate 512 0 }
-    ensures { record { outcome = result; stack = stack.new } ≡ runs program.now (record { rec = rec.now; P = p; S = s }) budget 0 (start (record { rec = rec.now; P = p; S = s })) }
+fn run(program: &[u8], ground: Ground, stack: &mut [u8], budget: u64) -> Outcome
+    requires low { ground.s ≤ 2 ^ 47 }
+    requires cleared { stack.old ≡ replicate 512 0 }
+    ensures { record { outcome = result; stack = stack.new } ≡ runs program.now (world_of ground.entry) budget 0 (start (world_of ground.entry)) }
 {
     let mut regs = [0u64; 16];
-    regs[1] = p;
-    regs[10] = s + 512;
+    regs[1] = ground.p;
+    regs[10] = ground.s + 512;
     let mut pc: u64 = 0;
     let mut live: u64 = 1026;
-    let mut n: u64 = 0;
-    while n < budget {
-        let made = n + 1;
-        match step(program, rec, p, s, pc, live, &mut regs, stack) {
+    for steps in 0..budget {
+        match step(program, ground, pc, live, &mut regs, stack) {
             Next::Go {
-                pc: pc2,
-                live: live2,
+                pc: onward,
+                live: set,
             } => {
-                pc = pc2;
-                live = live2;
+                pc = onward;
+                live = set;
             }
-            Next::Exit(v) => {
+            Next::Exit(value) => {
                 return Outcome::Verdict {
-                    value: v,
-                    steps: made,
+                    value,
+                    steps: steps + 1,
                 };
             }
             Next::Stop => {
                 return Outcome::Fault {
                     cause: why(program, pc, live),
                     at: pc,
-                    steps: n,
+                    steps,
                 };
             }
         }
-        n = made;
     }
-    Outcome::Budget { steps: n }
+    Outcome::Budget { steps: budget }
 }
 
-fn clear(m: &mut [u8])
-    ensures { m.new ≡ replicate (length m.old) 0 }
-{
-    let mut i = 0;
-    while i < m.len() {
-        m[i] = 0;
-        i += 1;
-    }
-}
-
+#[tactic(auto, unfolding(machine::specs::Machine::bad_address))]
 fn bad_address(a: u64) -> bool
     ensures { result ≡ bad_address a }
 {
-    (a < 65536) | (a > 140737488355328)
+    a < 65536 || a > 140737488355328
 }
 
 // The r bytes at p and the stack's 512 at s overlap.
+#[tactic(auto, unfolding(machine::specs::Machine::overlap))]
 fn overlap(p: u64, r: usize, s: u64) -> bool
     requires { (p ≤ 2 ^ 47) × (s ≤ 2 ^ 47) × (r ≤ 1024) }
     ensures { result ≡ overlapping p r s }
 {
-    (0 < r) & (p < s + 512) & (s < p + (r as u64))
+    0 < r && p < s + 512 && s < p + (r as u64)
 }
 
 // Whether a length or an address breaks the rule of docs/MACHINE.md, section 5.
+#[tactic(auto, unfolding(machine::specs::Machine::refused, machine::specs::Machine::bad_record, machine::specs::Machine::bad_stack, machine::specs::Machine::bad_address))]
 fn refuses(program: usize, rec: usize, stack: usize, p: u64, s: u64) -> bool
     ensures { result ≡ refused program rec stack p s }
 {
-    if bad_program(program) {
-        return true;
-    }
-    if rec > 1024 {
-        return true;
-    }
-    if stack != 512 {
-        return true;
-    }
-    if bad_address(p) {
-        return true;
-    }
-    if bad_address(s) {
-        return true;
-    }
-    overlap(p, rec, s)
+    bad_program(program)
+        || rec > 1024
+        || stack != 512
+        || bad_address(p)
+        || bad_address(s)
+        || overlap(p, rec, s)
 }
 
 // The interpreter. `p` and `s` are the addresses that the probe is told; nothing is read or written there.
@@ -139,6 +117,6 @@ pub fn interpret(
     if refuses(program.len(), rec.len(), stack.len(), p, s) {
         return Outcome::Refused;
     }
-    clear(stack);
-    run(program, rec, p, s, stack, budget)
+    stack.fill(0);
+    run(program, Ground { rec, p, s }, stack, budget)
 }

@@ -162,9 +162,9 @@ module _ (w : ℕ) (ww : Width w) (b : Bits) where
   demanded_of_low Mov d = d
   demanded_of_low Arsh d = count_of_low ∙ d
 
-pub calculated_computed : (w : ℕ) → (w ≡ 64) ⊎ (w ≡ 32) → (op : Operation) (a b : Bits) → Computed w op a b (calculated w op a b)
+pub calculated_at_width : (w : ℕ) → Width w → (op : Operation) (a b : Bits) → Computed w op a b (calculated w op a b)
 unfolding calculated low
-calculated_computed w either op a b =
+calculated_at_width w ww op a b =
     record {
       sound = λ ga gb. sound_for_the_instruction w ww op a b _ ga gb (f.sound (cut_form a ga) (cut_form b gb));
       best = λ d ga gb. best_for_the_instruction w ww op a b _ ga gb (f.best (demanded_of_low w ww b op d) (cut_form a ga) (cut_form b gb));
@@ -172,9 +172,6 @@ calculated_computed w either op a b =
           ∙ ap exactly (alu_cuts w ww op a.value b.value);
     }
   where
-    ww : Width w
-    ww = width w either
-
     f : Formed w op (low w a) (low w b) (formula w op (low w a) (low w b))
     f = formula_formed w ww op (low w a) (low w b)
 
@@ -183,6 +180,9 @@ calculated_computed w either op a b =
 
     none : {m : ℕ} → m ≡ 0 → cut w m ≡ 0
     none z = ap (cut w) z ∙ cut_small w (pow_pos w)
+
+pub calculated_computed : (w : ℕ) → (w ≡ 64) ⊎ (w ≡ 32) → (op : Operation) (a b : Bits) → Computed w op a b (calculated w op a b)
+calculated_computed w either op a b = calculated_at_width w (width w either) op a b
 
 -- more than is demanded: the best pair too where all but one of the low bits of a count are known
 pub one_of_two_best : (w : ℕ) → (w ≡ 64) ⊎ (w ≡ 32) → (shift : Shift) (a b : Bits) → Well 64 a → Well 64 b

@@ -10,11 +10,10 @@ use lib.Bits.{bit_and}
 use lib.Count.{count_trailing_zeros, trailing_le}
 use lib.Dec.{ltb}
 use lib.Pow.{pow_pos, pow_mono}
+use Rattle.std.specs.Prelude.{Option, Some, None}
 use Rattle.word.specs.Word.{bit}
 use Rattle.word.proofs.Bit.{bit_lt, bit_zero, bit_and_lem, bit_pow, bit_high, ext}
 use Rattle.known_bits.specs.declared.Bits.{Bits}
-use Rattle.known_bits.specs.declared.Learnt.{Learnt}
-use Rattle.known_bits.specs.declared.Learnt.TheVariants.{Pair, Nothing}
 use Rattle.known_bits.specs.Formula.{low, joined, up_to, from_bit, among, cleared, met}
 use Rattle.known_bits.specs.KnownBits.{Well, Mem, Sound, Best, Both, Apart}
 use Rattle.known_bits.specs.Learn.{Learns}
@@ -148,15 +147,15 @@ module _ (w : ℕ) (a' b' a b : Bits) (ga' : Well w a') (gb' : Well w b') (ga : 
       more x (inr m) = inr (j x m)
 
 -- ---- what a comparison tells: where more is known either nothing is left, or something was, and what is left lies inside it
-abbrev pub LearntInside : Learnt → Learnt → Type 0
-LearntInside Nothing r = Unit {0}
-LearntInside (Pair p) Nothing = ⊥
-LearntInside (Pair p) (Pair q) = Inside 64 p q
+abbrev pub LearntInside : Option Bits → Option Bits → Type 0
+LearntInside None r = Unit {0}
+LearntInside (Some p) None = ⊥
+LearntInside (Some p) (Some q) = Inside 64 p q
 
-learns_inside : (S T : ℕ → Type 0) (r s : Learnt) → Learns S r → Learns T s → ((x : ℕ) → S x → T x) → LearntInside r s
-learns_inside S T Nothing s h k more = tt
-learns_inside S T (Pair p) Nothing h k more = let e = h.answer.1 in k.answer e.0 (more e.0 e.1)
-learns_inside S T (Pair p) (Pair q) h k more = best_inside 64 S T p q h.answer.0 (best_sound 64 T q k.answer.0) more
+learns_inside : (S T : ℕ → Type 0) (r s : Option Bits) → Learns S r → Learns T s → ((x : ℕ) → S x → T x) → LearntInside r s
+learns_inside S T None s h k more = tt
+learns_inside S T (Some p) None h k more = let e = h.answer.1 in k.answer e.0 (more e.0 e.1)
+learns_inside S T (Some p) (Some q) h k more = best_inside 64 S T p q h.answer.0 (best_sound 64 T q k.answer.0) more
 
 module _ (a' b' a b : Bits) (ga' : Well 64 a') (gb' : Well 64 b') (ga : Well 64 a) (gb : Well 64 b) (i : Inside 64 a' a)
     (j : Inside 64 b' b) where

@@ -7,12 +7,12 @@ use lib.Bits.{bit_and, bit_or, bit_xor, and_lt, or_lt, xor_lt}
 use lib.Dec.{eqb}
 use lib.Pow.{pow_pos}
 use borrow.Author.Tests.{eqb-true, eqb-false, eq-eqb}
+use Rattle.std.specs.Prelude.{Some, None}
 use Rattle.word.specs.Word.{bit, compare}
 use Rattle.word.specs.declared.Comparison.TheVariants as comparison
 use Rattle.word.proofs.Bit.{bit_lt, bit_zero, bit_and_lem, bit_or_lem, bit_xor_lem, ext}
 use Rattle.word.proofs.Cut.{cut_64}
 use Rattle.known_bits.specs.declared.Bits.{Bits}
-use Rattle.known_bits.specs.declared.Learnt.TheVariants.{Pair, Nothing}
 use Rattle.known_bits.specs.Formula.{cleared, meet, met}
 use Rattle.known_bits.specs.KnownBits.{Well, Mem, Both, Apart}
 use Rattle.known_bits.specs.Learn.{Learns}
@@ -43,7 +43,7 @@ module _ (a : Bits) (s : ℕ) (hs : s < 2 ^ 64) (ga : Well 64 a) where
       ∙ ap not (eq-eqb (bit_and x t) 0 (ext 64 (bit_and x t) 0 (and_lt 64 x t i.0.fits ht) (pow_pos 64)
       (λ k l. omega (arith, bit_zero k, bit_and_lem k x t, fewer k l, no_shared_digit x (no_shared_bit x i) k))))
 
-  a_shared_known_bit_leaves_nothing : (bit_and a.value s ≡ 0 → ⊥) → Learns (Apart a s) Nothing
+  a_shared_known_bit_leaves_nothing : (bit_and a.value s ≡ 0 → ⊥) → Learns (Apart a s) None
   a_shared_known_bit_leaves_nothing n =
       record {
         answer = λ x i. n (ext 64 (bit_and a.value s) 0 (and_lt 64 a.value s ga.value_fits hs) (pow_pos 64)
@@ -101,7 +101,7 @@ module _ (a : Bits) (s : ℕ) (hs : s < 2 ^ 64) (ga : Well 64 a) where
           ))))),
     )
 
-    jset_not_taken_clears : Learns (Apart a s) (Pair (record { value = a.value; mask = bit_xor (bit_or a.mask s) s }))
+    jset_not_taken_clears : Learns (Apart a s) (Some (record { value = a.value; mask = bit_xor (bit_or a.mask s) s }))
     jset_not_taken_clears =
         record {
           answer = (
@@ -128,7 +128,7 @@ module _ (a b : Bits) (ga : Well 64 a) (gb : Well 64 b) where
   unknown_fits = or_lt 64 a.mask b.mask ga.mask_fits gb.mask_fits
 
   a_difference_in_known_bits_leaves_nothing : (bit_or a.value (bit_or a.mask b.mask) ≡ bit_or b.value (bit_or a.mask b.mask) → ⊥)
-      → Learns (Both a b) Nothing
+      → Learns (Both a b) None
   a_difference_in_known_bits_leaves_nothing n =
       record {
         answer = λ x i. n (ext 64 _ _ (or_lt 64 a.value unknown ga.value_fits unknown_fits) (or_lt 64 b.value unknown gb.value_fits unknown_fits)
@@ -153,7 +153,7 @@ module _ (a b : Bits) (ga : Well 64 a) (gb : Well 64 b) where
         sym (bit_or_lem k a.value unknown) ∙ ap (bit k) e ∙ bit_or_lem k b.value unknown in
         omega arith
 
-    meet_keeps_both : Learns (Both a b) (Pair (meet a b))
+    meet_keeps_both : Learns (Both a b) (Some (meet a b))
     meet_keeps_both =
         let g = meet_well 64 a b ga gb in
         let out = meet_within_both 64 a b ga gb same_value in

@@ -1,13 +1,11 @@
 -- The pair that each operation gives, as a formula. The code computes these and nothing else; what they promise is proved about them.
-use Rattle.std.specs.Prelude.{Bool, cond, ◌&&◌, ℕ, zero, suc, ◌+◌, ◌-◌, ◌*◌, ◌/◌, ◌%◌, ◌^◌, eqb, ltb}
+use Rattle.std.specs.Prelude.{Bool, cond, ◌&&◌, ℕ, zero, suc, ◌+◌, ◌-◌, ◌*◌, ◌/◌, ◌%◌, ◌^◌, eqb, ltb, Option, Some, None}
 use Rattle.std.specs.Int.Bits.{bit_and, bit_or, bit_xor}
 use Rattle.std.specs.Int.Count.{count_leading_zeros, count_trailing_zeros}
 use Rattle.word.specs.Word.{bit, cut, alu}
 use Rattle.word.specs.declared.Operation.{Operation}
 use Rattle.word.specs.declared.Operation.TheVariants.{Add, Sub, Mul, Div, Or, And, Lsh, Rsh, Neg, Mod, Xor, Mov, Arsh}
 use Rattle.known_bits.specs.declared.Bits.{Bits}
-use Rattle.known_bits.specs.declared.Learnt.{Learnt}
-use Rattle.known_bits.specs.declared.Learnt.TheVariants.{Pair, Nothing}
 use Rattle.known_bits.specs.Pair.{top, exactly, packed, spread, each}
 
 -- the low w bits of a pair
@@ -178,12 +176,12 @@ calculated w op a b = formula w op (low w a) (low w b)
 
 -- ---- what a comparison tells
 -- the way of JSET that is not taken: the bits of s are 0
-unfoldable pub cleared : Bits → ℕ → Learnt
-cleared a s = cond (eqb (bit_and a.value s) 0) (Pair (record { value = a.value; mask = bit_xor (bit_or a.mask s) s })) Nothing
+unfoldable pub cleared : Bits → ℕ → Option Bits
+cleared a s = cond (eqb (bit_and a.value s) 0) (Some (record { value = a.value; mask = bit_xor (bit_or a.mask s) s })) None
 
 -- equality: what both know; nothing where they contradict each other
-unfoldable pub met : Bits → Bits → Learnt
+unfoldable pub met : Bits → Bits → Option Bits
 met a b =
     cond (eqb (bit_or a.value (bit_or a.mask b.mask)) (bit_or b.value (bit_or a.mask b.mask)))
-    (Pair (meet a b))
-    Nothing
+    (Some (meet a b))
+    None

@@ -1,2 +1,1 @@
-pub mod Announcing
 pub mod Vectors

@@ -1,98 +1,88 @@
-// An instruction as a form: which text it has, and the numbers in it.
-use crate::form::{Form, fixed};
-use crate::meaning::{ALU, BRANCH, EXIT, GOTO, LOAD, NOTHING, STORE};
+// An instruction, in the syntax of LLVM's disassembler for BPF, version 14, with decimal immediates.
+ghost use Rattle.text.specs.Page.{Longer};
+
 use crate::sign::{magnitude, sign};
-use crate::words::{BARE, LONG, MINUS, SHORT, comparison_word, operation_word, size_word};
-use machine::instruction::{Instruction, Operand, Width};
+use crate::words::{comparison_word, operation_word, size_word};
+use machine::instruction::{Instruction, Operand, Size, Width};
+use text::page::Page;
 use word::Operation;
 
 // A register's name: r at 64 bits, w for its low 32.
-fn letter(width: Width) -> u64 {
+fn prefix_of(width: Width) -> u8 {
     match width {
-        Width::Long => LONG,
-        Width::Short => SHORT,
+        Width::Long => b'r',
+        Width::Short => b'w',
     }
 }
 
-// What stands before an operand: a register's letter, or the minus of a negative number.
-fn operand_word(operand: Operand, prefix: u64) -> u64 {
+fn write_register(page: &mut Page, prefix: u8, register: u64)
+    ensures { Longer page.old page.new }
+{
+    page.letter(prefix);
+    page.decimal(register);
+}
+
+fn write_operand(page: &mut Page, prefix: u8, operand: Operand)
+    ensures { Longer page.old page.new }
+{
     match operand {
         Operand::Immediate(n) => {
-            if n < 9223372036854775808 {
-                return BARE;
+            if sign(n) == b'-' {
+                page.letter(b'-');
             }
-            MINUS
+            page.decimal(magnitude(n));
         }
-        Operand::Register(_) => prefix,
+        Operand::Register(register) => write_register(page, prefix, register),
     }
 }
 
-fn operand_number(operand: Operand) -> u64 {
-    match operand {
-        Operand::Immediate(n) => magnitude(n),
-        Operand::Register(r) => r,
-    }
+// Two operands, with a word between them.
+fn write_between(page: &mut Page, width: Width, dst: u64, word: &[u8], operand: Operand)
+    ensures { Longer page.old page.new }
+{
+    let prefix = prefix_of(width);
+    write_register(page, prefix, dst);
+    page.text(word);
+    write_operand(page, prefix, operand);
 }
 
-fn alu_form(prefix: u64, word: u64, dst: u64, operand: Operand) -> Form {
-    let before = operand_word(operand, prefix);
-    let number = operand_number(operand);
-    Form {
-        entry: ALU,
-        numbers: [prefix, dst, word, before, number, 0, 0, 0],
-    }
+fn write_goto(page: &mut Page, off: u64)
+    ensures { Longer page.old page.new }
+{
+    page.text(b"goto ");
+    page.letter(sign(off));
+    page.decimal(magnitude(off));
 }
 
-fn branch_form(prefix: u64, word: u64, dst: u64, operand: Operand, off: u64) -> Form {
-    let before = operand_word(operand, prefix);
-    let number = operand_number(operand);
-    let way = sign(off) as u64;
-    let distance = magnitude(off);
-    Form {
-        entry: BRANCH,
-        numbers: [prefix, dst, word, before, number, way, distance, 0],
-    }
+// So many bytes of memory, at a register and an offset.
+fn write_place(page: &mut Page, size: Size, register: u64, off: u64)
+    ensures { Longer page.old page.new }
+{
+    page.text(b"*(");
+    page.text(size_word(size));
+    page.text(b" *)(");
+    write_register(page, b'r', register);
+    page.letter(b' ');
+    page.letter(sign(off));
+    page.letter(b' ');
+    page.decimal(magnitude(off));
+    page.letter(b')');
 }
 
-fn store_form(word: u64, dst: u64, off: u64, operand: Operand) -> Form {
-    let before = operand_word(operand, LONG);
-    let number = operand_number(operand);
-    let side = sign(off) as u64;
-    let distance = magnitude(off);
-    Form {
-        entry: STORE,
-        numbers: [word, dst, side, distance, before, number, 0, 0],
-    }
-}
-
-fn load_form(word: u64, dst: u64, src: u64, off: u64) -> Form {
-    let side = sign(off) as u64;
-    Form {
-        entry: LOAD,
-        numbers: [dst, word, src, side, magnitude(off), 0, 0, 0],
-    }
-}
-
-fn goto_form(off: u64) -> Form {
-    let way = sign(off) as u64;
-    Form {
-        entry: GOTO,
-        numbers: [way, magnitude(off), 0, 0, 0, 0, 0, 0],
-    }
-}
-
-// What is no instruction has a form that is empty.
-pub fn form_of(instruction: Instruction) -> Form {
+// Of what is no instruction nothing is written.
+pub fn write_instruction(page: &mut Page, instruction: Instruction)
+    ensures { Longer page.old page.new }
+{
     match instruction {
         Instruction::Alu {
             width,
             operation,
             dst,
             operand,
-        } => alu_form(letter(width), operation_word(operation), dst, operand),
+        } => write_between(page, width, dst, operation_word(operation), operand),
         Instruction::Neg { width, dst } => {
             let word = operation_word(Operation::Neg);
-            alu_form(letter(width), word, dst, Operand::Register(dst))
+            write_between(page, width, dst, word, Operand::Register(dst));
         }
         Instruction::Jump {
             width,
@@ -100,27 +90,34 @@ pub fn form_of(instruction: Instruction) -> Form {
             dst,
             operand,
             off,
-        } => branch_form(
-            letter(width),
-            comparison_word(comparison),
-            dst,
-            operand,
-            off,
-        ),
-        Instruction::Always { off } => goto_form(off),
-        Instruction::Exit => fixed(EXIT),
+        } => {
+            page.text(b"if ");
+            write_between(page, width, dst, comparison_word(comparison), operand);
+            page.letter(b' ');
+            write_goto(page, off);
+        }
+        Instruction::Always { off } => write_goto(page, off),
+        Instruction::Exit => page.text(b"exit"),
         Instruction::Load {
             size,
             dst,
             src,
             off,
-        } => load_form(size_word(size), dst, src, off),
+        } => {
+            write_register(page, b'r', dst);
+            page.text(b" = ");
+            write_place(page, size, src, off);
+        }
         Instruction::Store {
             size,
             dst,
             off,
             operand,
-        } => store_form(size_word(size), dst, off, operand),
-        Instruction::NoInstruction => fixed(NOTHING),
+        } => {
+            write_place(page, size, dst, off);
+            page.text(b" = ");
+            write_operand(page, b'r', operand);
+        }
+        Instruction::NoInstruction => {}
     }
 }

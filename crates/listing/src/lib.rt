@@ -2,10 +2,8 @@
 // All on slices, with no input or output.
 #![tactic(auto)]
 
-pub mod form;
-pub mod instruction;
+mod instruction;
 pub mod line;
-mod meaning;
 pub mod rule;
 pub mod sign;
 pub mod value;

@@ -1,33 +1,29 @@
 // Words read as signed numbers.
+#![tactic(auto, using(text::proofs::Pages::pages), unfolding(crate::specs::Signed::sign, crate::specs::Signed::magnitude, crate::specs::Signed::signed_text))]
+
 ghost use Rattle.std.specs.Prelude.{◌≡◌};
-ghost use Rattle.text.specs.Buffer.{Put};
+ghost use Rattle.text.specs.Page.{Wrote};
 ghost use Rattle.listing.specs.Signed as defined;
 
-use text::buffer::{put, put_decimal};
+use text::page::Page;
 
 // The character + or -.
 pub fn sign(n: u64) -> u8
     ensures { result ≡ defined.sign n }
 {
-    if n < 9223372036854775808 {
-        return b'+';
-    }
-    b'-'
+    if n < 1 << 63 { b'+' } else { b'-' }
 }
 
 pub fn magnitude(n: u64) -> u64
     ensures { result ≡ defined.magnitude n }
 {
-    if n < 9223372036854775808 {
-        return n;
-    }
-    18446744073709551615 - n + 1
+    if n < 1 << 63 { n } else { n.wrapping_neg() }
 }
 
-// Puts the sign, of which there is always one, and the magnitude.
-pub fn put_signed(out: &mut [u8], at: usize, n: u64) -> usize
-    ensures { Put out.old at (defined.signed_text n) out.new result }
+// Writes the sign, of which there is always one, and the magnitude.
+pub fn write_signed(page: &mut Page, n: u64)
+    ensures { Wrote page.old (defined.signed_text n) page.new }
 {
-    let i = put(out, at, sign(n));
-    put_decimal(out, i, magnitude(n))
+    page.letter(sign(n));
+    page.decimal(magnitude(n));
 }

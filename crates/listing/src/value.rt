@@ -1,180 +1,171 @@
 // What is known of a value, as text.
+#![tactic(auto, using(text::proofs::Pages::pages), unfolding(crate::specs::ValueText::end_text, crate::specs::ValueText::signed_end_text, crate::specs::ValueText::signed_range_text, crate::specs::ValueText::is_everything, crate::specs::ValueText::aside_text, crate::specs::ValueText::range_text, crate::specs::ValueText::left_open, crate::specs::ValueText::bits_text, crate::specs::ValueText::number_text, crate::specs::ValueText::offset_text, crate::specs::ValueText::back_text, crate::specs::ValueText::inside_text, crate::specs::ValueText::stack_text, crate::specs::ValueText::address_text, crate::specs::ValueText::gone_text, crate::specs::ValueText::value_text))]
+
 ghost use Rattle.std.specs.Prelude.{◌≡◌, ◌++◌, ◌≤◌};
-ghost use Rattle.text.specs.Buffer.{Put, chars, hexadecimal};
+ghost use Rattle.text.specs.Buffer.{chars, hexadecimal};
+ghost use Rattle.text.specs.Page.{Wrote};
 ghost use Rattle.listing.specs.ValueText.{end_text, signed_end_text, signed_range_text, is_everything, aside_text, range_text, bits_text, number_text, offset_text, back_text, inside_text, stack_text, address_text, gone_text, value_text};
 
-use crate::sign::put_signed;
+use crate::sign::write_signed;
 use analysis::{Gone, Region, Value};
 use bit_calculator::masks::up_to;
-use number::Number;
-use text::buffer::{put_decimal, put_hexadecimal, put_text};
+use known_bits::Bits;
+use number::{Number, Range};
+use text::page::Page;
 
-fn put_end(out: &mut [u8], at: usize, lo: u64, hi: u64) -> usize
-    ensures { Put out.old at (end_text lo hi) out.new result }
+fn write_end(page: &mut Page, range: Range)
+    ensures { Wrote page.old (end_text range.lo range.hi) page.new }
 {
-    if lo == hi {
-        return at;
+    if range.lo != range.hi {
+        page.text(b"..");
+        page.decimal(range.hi);
     }
-    let i = put_text(out, at, b"..");
-    put_decimal(out, i, hi)
 }
 
-fn put_signed_end(out: &mut [u8], at: usize, lo: u64, hi: u64) -> usize
-    ensures { Put out.old at (signed_end_text lo hi) out.new result }
+fn write_signed_end(page: &mut Page, range: Range)
+    ensures { Wrote page.old (signed_end_text range.lo range.hi) page.new }
 {
-    if lo == hi {
-        return at;
+    if range.lo == range.hi {
+        return;
     }
-    let i = put_text(out, at, b"..");
-    if lo < 9223372036854775808 {
-        return put_decimal(out, i, hi);
+    page.text(b"..");
+    if range.lo < 1 << 63 {
+        page.decimal(range.hi);
+    } else {
+        write_signed(page, range.hi);
     }
-    put_signed(out, i, hi)
 }
 
-fn put_signed_range(out: &mut [u8], at: usize, lo: u64, hi: u64) -> usize
-    ensures { Put out.old at (signed_range_text lo hi) out.new result }
+fn write_signed_range(page: &mut Page, range: Range)
+    ensures { Wrote page.old (signed_range_text range.lo range.hi) page.new }
 {
-    let i = put_signed(out, at, lo);
-    put_signed_end(out, i, lo, hi)
+    write_signed(page, range.lo);
+    write_signed_end(page, range);
 }
 
-fn is_everything(lo: u64, hi: u64) -> bool
-    ensures { result ≡ is_everything lo hi }
+fn is_everything(range: Range) -> bool
+    ensures { result ≡ is_everything range.lo range.hi }
 {
-    (lo == 0) & (hi == 18446744073709551615)
+    range.lo == 0 && range.hi == u64::MAX
 }
 
-fn put_aside(out: &mut [u8], at: usize, lo: u64, hi: u64) -> usize
-    ensures { Put out.old at (aside_text lo hi) out.new result }
+fn write_aside(page: &mut Page, range: Range)
+    ensures { Wrote page.old (aside_text range.lo range.hi) page.new }
 {
-    if lo < 9223372036854775808 {
-        return at;
+    if range.lo >= 1 << 63 {
+        page.text(b" (");
+        write_signed_range(page, range);
+        page.text(b")");
     }
-    let i = put_text(out, at, b" (");
-    let j = put_signed_range(out, i, lo, hi);
-    put_text(out, j, b")")
 }
 
-fn put_range(out: &mut [u8], at: usize, lo: u64, hi: u64) -> usize
-    ensures { Put out.old at (range_text lo hi) out.new result }
+fn write_range(page: &mut Page, range: Range)
+    ensures { Wrote page.old (range_text range.lo range.hi) page.new }
 {
-    if is_everything(lo, hi) {
-        return put_text(out, at, b"any number");
+    if is_everything(range) {
+        return page.text(b"any number");
     }
-    let i = put_decimal(out, at, lo);
-    let j = put_end(out, i, lo, hi);
-    put_aside(out, j, lo, hi)
+    page.decimal(range.lo);
+    write_end(page, range);
+    write_aside(page, range);
 }
 
-fn put_value_and_mask(out: &mut [u8], at: usize, value: u64, mask: u64) -> usize
-    ensures { Put out.old at (chars " bits " ++ hexadecimal value ++ chars "/" ++ hexadecimal mask)
-        out.new result }
+fn write_value_and_mask(page: &mut Page, bits: Bits)
+    ensures { Wrote page.old (chars " bits " ++ hexadecimal bits.value ++ chars "/" ++ hexadecimal bits.mask) page.new }
 {
-    let i = put_text(out, at, b" bits ");
-    let j = put_hexadecimal(out, i, value);
-    let k = put_text(out, j, b"/");
-    put_hexadecimal(out, k, mask)
+    page.text(b" bits ");
+    page.hexadecimal(bits.value);
+    page.text(b"/");
+    page.hexadecimal(bits.mask);
 }
 
-fn put_bits(out: &mut [u8], at: usize, value: u64, mask: u64, lo: u64, hi: u64) -> usize
-    ensures { Put out.old at (bits_text value mask lo hi) out.new result }
+fn write_bits(page: &mut Page, bits: Bits, range: Range)
+    ensures { Wrote page.old (bits_text bits.value bits.mask range.lo range.hi) page.new }
 {
-    let left_open = up_to(lo ^ hi);
-    if mask & left_open == left_open {
-        return at;
+    let left_open = up_to(range.lo ^ range.hi);
+    if bits.mask & left_open != left_open {
+        write_value_and_mask(page, bits);
     }
-    put_value_and_mask(out, at, value, mask)
 }
 
-pub fn put_number(out: &mut [u8], at: usize, n: Number) -> usize
-    ensures { Put out.old at (number_text n) out.new result }
+pub fn write_number(page: &mut Page, n: Number)
+    ensures { Wrote page.old (number_text n) page.new }
 {
-    let i = put_range(out, at, n.range.lo, n.range.hi);
-    put_bits(out, i, n.bits.value, n.bits.mask, n.range.lo, n.range.hi)
+    write_range(page, n.range);
+    write_bits(page, n.bits, n.range);
 }
 
-fn put_offset(out: &mut [u8], at: usize, lo: u64, hi: u64) -> usize
-    ensures { Put out.old at (offset_text lo hi) out.new result }
+fn write_offset(page: &mut Page, range: Range)
+    ensures { Wrote page.old (offset_text range.lo range.hi) page.new }
 {
-    if is_everything(lo, hi) {
-        return put_text(out, at, b"+any");
+    if is_everything(range) {
+        return page.text(b"+any");
     }
-    put_signed_range(out, at, lo, hi)
+    write_signed_range(page, range);
 }
 
-fn put_back(out: &mut [u8], at: usize, k: u64) -> usize
+fn write_back(page: &mut Page, k: u64)
     requires { k ≤ 512 }
-    ensures { Put out.old at (back_text k) out.new result }
+    ensures { Wrote page.old (back_text k) page.new }
 {
-    let i = put_text(out, at, b"-");
-    put_decimal(out, i, 512 - k)
+    page.text(b"-");
+    page.decimal(512 - k);
 }
 
-fn put_inside(out: &mut [u8], at: usize, lo: u64, hi: u64) -> usize
-    requires { (lo ≤ 512) × (hi ≤ 512) }
-    ensures { Put out.old at (inside_text lo hi) out.new result }
+fn write_inside(page: &mut Page, range: Range)
+    requires { (range.lo ≤ 512) × (range.hi ≤ 512) }
+    ensures { Wrote page.old (inside_text range.lo range.hi) page.new }
 {
-    if lo != hi {
-        let i = put_back(out, at, lo);
-        let j = put_text(out, i, b"..");
-        return put_back(out, j, hi);
+    if range.lo != range.hi {
+        write_back(page, range.lo);
+        page.text(b"..");
+        return write_back(page, range.hi);
     }
-    if lo == 512 {
-        return at;
+    if range.lo != 512 {
+        write_back(page, range.lo);
     }
-    put_back(out, at, lo)
 }
 
-fn put_outside(out: &mut [u8], at: usize, lo: u64, hi: u64) -> usize
-    ensures { Put out.old at (chars " start" ++ offset_text lo hi) out.new result }
+fn write_stack(page: &mut Page, range: Range)
+    ensures { Wrote page.old (stack_text range.lo range.hi) page.new }
 {
-    let i = put_text(out, at, b" start");
-    put_offset(out, i, lo, hi)
+    if range.lo <= 512 && range.hi <= 512 {
+        return write_inside(page, range);
+    }
+    page.text(b" start");
+    write_offset(page, range);
 }
 
-fn put_stack(out: &mut [u8], at: usize, lo: u64, hi: u64) -> usize
-    ensures { Put out.old at (stack_text lo hi) out.new result }
-{
-    if 512 < lo {
-        return put_outside(out, at, lo, hi);
-    }
-    if 512 < hi {
-        return put_outside(out, at, lo, hi);
-    }
-    put_inside(out, at, lo, hi)
-}
-
-pub fn put_address(out: &mut [u8], at: usize, region: Region, lo: u64, hi: u64) -> usize
-    ensures { Put out.old at (address_text region lo hi) out.new result }
+pub fn write_address(page: &mut Page, region: Region, range: Range)
+    ensures { Wrote page.old (address_text region range.lo range.hi) page.new }
 {
     match region {
         Region::Record => {
-            let i = put_text(out, at, b"record");
-            put_offset(out, i, lo, hi)
+            page.text(b"record");
+            write_offset(page, range);
         }
         Region::Stack => {
-            let i = put_text(out, at, b"stack");
-            put_stack(out, i, lo, hi)
+            page.text(b"stack");
+            write_stack(page, range);
         }
     }
 }
 
-fn put_gone(out: &mut [u8], at: usize, gone: Gone) -> usize
-    ensures { Put out.old at (gone_text gone) out.new result }
+fn write_gone(page: &mut Page, gone: Gone)
+    ensures { Wrote page.old (gone_text gone) page.new }
 {
     match gone {
-        Gone::Never => put_text(out, at, b"unset"),
-        Gone::Mixed => put_text(out, at, b"mixed"),
+        Gone::Never => page.text(b"unset"),
+        Gone::Mixed => page.text(b"mixed"),
     }
 }
 
-pub fn put_value(out: &mut [u8], at: usize, value: Value) -> usize
-    ensures { Put out.old at (value_text value) out.new result }
+pub fn write_value(page: &mut Page, value: Value)
+    ensures { Wrote page.old (value_text value) page.new }
 {
     match value {
-        Value::Unusable(gone) => put_gone(out, at, gone),
-        Value::Plain(n) => put_number(out, at, n),
-        Value::Address(region, n) => put_address(out, at, region, n.range.lo, n.range.hi),
+        Value::Unusable(gone) => write_gone(page, gone),
+        Value::Plain(n) => write_number(page, n),
+        Value::Address(region, n) => write_address(page, region, n.range),
     }
 }

@@ -1,107 +1,46 @@
-// The words of the instructions' syntax, by number: operations, comparisons, the sizes of loads and stores, and what stands before a
-// register or a number, or around a rule.
-ghost use Rattle.std.specs.Prelude.{◌≤◌, length};
-
+// The words of the instructions' syntax: operations, comparisons, the sizes of loads and stores.
 use machine::instruction::Size;
-use text::table::write_entry;
 use word::{Comparison, Operation};
 
-// Nothing around a rule, or brackets; what closes is the next word.
-pub const BARE: u64 = 28;
-
-pub const BRACKETS: u64 = 30;
-
-pub const MINUS: u64 = 32;
-
-pub const LONG: u64 = 33;
-
-pub const SHORT: u64 = 34;
-
-pub fn operation_word(operation: Operation) -> u64 {
+pub fn operation_word(operation: Operation) -> &'static [u8] {
     match operation {
-        Operation::Add => 0,
-        Operation::Sub => 1,
-        Operation::Mul => 2,
-        Operation::Div => 3,
-        Operation::Or => 4,
-        Operation::And => 5,
-        Operation::Lsh => 6,
-        Operation::Rsh => 7,
-        Operation::Neg => 8,
-        Operation::Mod => 9,
-        Operation::Xor => 10,
-        Operation::Mov => 11,
-        Operation::Arsh => 12,
+        Operation::Add => b" += ",
+        Operation::Sub => b" -= ",
+        Operation::Mul => b" *= ",
+        Operation::Div => b" /= ",
+        Operation::Or => b" |= ",
+        Operation::And => b" &= ",
+        Operation::Lsh => b" <<= ",
+        Operation::Rsh => b" >>= ",
+        Operation::Neg => b" = -",
+        Operation::Mod => b" %= ",
+        Operation::Xor => b" ^= ",
+        Operation::Mov => b" = ",
+        Operation::Arsh => b" s>>= ",
     }
 }
 
-pub fn comparison_word(comparison: Comparison) -> u64 {
+pub fn comparison_word(comparison: Comparison) -> &'static [u8] {
     match comparison {
-        Comparison::Eq => 13,
-        Comparison::Gt => 14,
-        Comparison::Ge => 15,
-        Comparison::Set => 16,
-        Comparison::Ne => 17,
-        Comparison::Sgt => 18,
-        Comparison::Sge => 19,
-        Comparison::Lt => 20,
-        Comparison::Le => 21,
-        Comparison::Slt => 22,
-        Comparison::Sle => 23,
+        Comparison::Eq => b" == ",
+        Comparison::Gt => b" > ",
+        Comparison::Ge => b" >= ",
+        Comparison::Set => b" & ",
+        Comparison::Ne => b" != ",
+        Comparison::Sgt => b" s> ",
+        Comparison::Sge => b" s>= ",
+        Comparison::Lt => b" < ",
+        Comparison::Le => b" <= ",
+        Comparison::Slt => b" s< ",
+        Comparison::Sle => b" s<= ",
     }
 }
 
-pub fn size_word(size: Size) -> u64 {
+pub fn size_word(size: Size) -> &'static [u8] {
     match size {
-        Size::One => 24,
-        Size::Two => 25,
-        Size::Four => 26,
-        Size::Eight => 27,
+        Size::One => b"u8",
+        Size::Two => b"u16",
+        Size::Four => b"u32",
+        Size::Eight => b"u64",
     }
-}
-
-pub fn write_word(out: &mut [u8], at: usize, k: u64) -> usize
-    requires { at ≤ length out.old }
-    ensures { (at ≤ result) × (result ≤ length out.old) }
-{
-    write_entry(
-        out,
-        at,
-        b"\x20+= \n\
-          \x20-= \n\
-          \x20*= \n\
-          \x20/= \n\
-          \x20|= \n\
-          \x20&= \n\
-          \x20<<= \n\
-          \x20>>= \n\
-          \x20= -\n\
-          \x20%= \n\
-          \x20^= \n\
-          \x20= \n\
-          \x20s>>= \n\
-          \x20== \n\
-          \x20> \n\
-          \x20>= \n\
-          \x20& \n\
-          \x20!= \n\
-          \x20s> \n\
-          \x20s>= \n\
-          \x20< \n\
-          \x20<= \n\
-          \x20s< \n\
-          \x20s<= \n\
-          u8\n\
-          u16\n\
-          u32\n\
-          u64\n\
-          \n\
-          \n\
-          <no instruction: \n\
-          >\n\
-          -\n\
-          r\n\
-          w\n",
-        k,
-    )
 }

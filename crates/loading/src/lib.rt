@@ -2,138 +2,112 @@
 // All on slices, with no input or output.
 #![tactic(auto)]
 
-ghost use Rattle.std.specs.Prelude.{◌≤◌, length};
-ghost use Rattle.object.specs.Object.{Answer};
-ghost use Rattle.loading.specs.Loaded.{Inside};
+ghost use Rattle.std.specs.Prelude.{◌≤◌, length, IfOk};
+ghost use Rattle.object.specs.Object.{Code};
+ghost use Rattle.loading.specs.Loaded.{Lies};
 
-use object::{Section, find_code, find_named, is_elf};
-use text::dump::{Dump, read_dump};
+use object::{ObjectError, Section, find_code, find_named, is_elf};
+use text::dump::{DumpError, read_dump};
 
 mod trouble;
 
 pub use trouble::complain;
 
-// What the file holds, where it is told.
-#[derive(Clone, Copy)]
+// What a file holds.
+#[derive(Clone, Copy, Debug, PartialEq, Eq)]
 pub enum Kind {
-    Guess,
     Raw,
     Hex,
     Elf,
 }
 
-// Where the program's bytes are: in the file, or at the start of the buffer for spelled ones. Or what is wrong.
-#[derive(Clone, Copy)]
-pub enum Loaded {
+// Where the program's bytes are: in the file, or at the start of the buffer for spelled ones.
+#[derive(Clone, Copy, Debug, PartialEq, Eq)]
+pub enum Place {
     InFile { start: usize, end: usize },
     Spelled { length: usize },
-    BadObject(Section),
-    BadDump(Dump),
+}
+
+// Why a file holds no program.
+#[derive(Clone, Copy, Debug, PartialEq, Eq)]
+pub enum LoadError {
+    Object(ObjectError),
+    Dump(DumpError),
     Nothing,
 }
 
-// An empty name: none was given.
-fn section_of(file: &[u8], name: &[u8]) -> Section
-    ensures { Answer file.now result }
-{
-    if name.len() == 0 {
-        return find_code(file);
-    }
-    find_named(file, name)
-}
-
-fn load_object(file: &[u8], name: &[u8], room: usize) -> Loaded
-    ensures { Inside (length file.now) room result }
-{
-    let found = section_of(file, name);
-    let Section::At { start, length } = found else {
-        return Loaded::BadObject(found);
-    };
-    Loaded::InFile {
-        start,
-        end: start + length,
+impl From<ObjectError> for LoadError {
+    fn from(error: ObjectError) -> LoadError {
+        LoadError::Object(error)
     }
 }
 
-fn load_dump(file: &[u8], bare: &mut [u8], program: &mut [u8]) -> Loaded
-    ensures { Inside (length file.now) (length program.old) result }
-{
-    let dump = read_dump(file, bare, program);
-    let Dump::Are(n) = dump else {
-        return Loaded::BadDump(dump);
-    };
-    Loaded::Spelled { length: n }
+impl From<DumpError> for LoadError {
+    fn from(error: DumpError) -> LoadError {
+        LoadError::Dump(error)
+    }
 }
 
-fn load_raw(file: &[u8], room: usize) -> Loaded
-    ensures { Inside (length file.now) room result }
+fn find_section(file: &[u8], name: Option<&[u8]>) -> Result<Section, ObjectError>
+    ensures { IfOk result (λ s. Code file.now s.start s.length) }
 {
-    Loaded::InFile {
-        start: 0,
-        end: file.len(),
+    match name {
+        Some(name) => find_named(file, name),
+        None => find_code(file),
     }
 }
 
 fn is_letter(b: u8) -> bool {
-    ((31 < b) & (b < 127)) | (b == 9) | (b == 10) | (b == 13)
+    matches!(b, b' '..=b'~' | b'\t' | b'\n' | b'\r')
 }
 
-// Whether all bytes are those of a text: instructions have others, such as the 0 of a field that is not used.
-fn is_text(file: &[u8]) -> bool {
-    let mut i = 0;
-    while i < file.len() {
-        if !is_letter(file[i]) {
-            return false;
-        }
-        i += 1;
-    }
-    true
-}
-
+// The kind that the bytes look like: instructions have others than a text's, such as the 0 of a field that is not used.
 fn guess(file: &[u8]) -> Kind {
     if is_elf(file) {
-        return Kind::Elf;
-    }
-    if is_text(file) {
-        return Kind::Hex;
-    }
-    Kind::Raw
-}
-
-fn load_kind(file: &[u8], kind: Kind, name: &[u8], bare: &mut [u8], program: &mut [u8]) -> Loaded
-    ensures { Inside (length file.now) (length program.old) result }
-{
-    match kind {
-        Kind::Elf => load_object(file, name, program.len()),
-        Kind::Hex => load_dump(file, bare, program),
-        Kind::Raw => load_raw(file, program.len()),
-        Kind::Guess => Loaded::Nothing,
+        Kind::Elf
+    } else if file.iter().all(|b| is_letter(*b)) {
+        Kind::Hex
+    } else {
+        Kind::Raw
     }
 }
 
 // Where a section is named, the file is an object.
-fn meant(file: &[u8], kind: Kind, name: &[u8]) -> Kind {
-    match kind {
-        Kind::Guess => {
-            if name.len() == 0 {
-                return guess(file);
-            }
-            Kind::Elf
-        }
-        Kind::Raw => Kind::Raw,
-        Kind::Hex => Kind::Hex,
-        Kind::Elf => Kind::Elf,
+fn meant(file: &[u8], kind: Option<Kind>, name: Option<&[u8]>) -> Kind {
+    match (kind, name) {
+        (Some(kind), _) => kind,
+        (None, Some(_)) => Kind::Elf,
+        (None, None) => guess(file),
     }
 }
 
 // The program in a file of the kind, or of the kind that its bytes look like. `bare` is scratch memory for the digits of a text; it should
 // be as long as the file.
-pub fn load(file: &[u8], kind: Kind, name: &[u8], bare: &mut [u8], program: &mut [u8]) -> Loaded
-    ensures { Inside (length file.now) (length program.old) result }
+pub fn load(
+    file: &[u8],
+    kind: Option<Kind>,
+    name: Option<&[u8]>,
+    bare: &mut [u8],
+    program: &mut [u8],
+) -> Result<Place, LoadError>
+    ensures { IfOk result (Lies (length file.now) (length program.old)) }
 {
-    if file.len() == 0 {
-        return Loaded::Nothing;
+    if file.is_empty() {
+        return Err(LoadError::Nothing);
     }
-    let kind = meant(file, kind, name);
-    load_kind(file, kind, name, bare, program)
+    match meant(file, kind, name) {
+        Kind::Elf => {
+            let Section { start, length } = find_section(file, name)?;
+            let end = start + length;
+            Ok(Place::InFile { start, end })
+        }
+        Kind::Hex => {
+            let length = read_dump(file, bare, program)?;
+            Ok(Place::Spelled { length })
+        }
+        Kind::Raw => Ok(Place::InFile {
+            start: 0,
+            end: file.len(),
+        }),
+    }
 }

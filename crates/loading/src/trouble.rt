@@ -1,192 +1,185 @@
-// What is wrong with a file that holds no program, and what to do about it: a sentence of a table, with marks for what was found.
+// What is wrong with a file that holds no program, and what to do about it, in a line.
 ghost use Rattle.std.specs.Prelude.{◌≤◌, length};
+ghost use Rattle.text.specs.Page.{Longer};
 
-use crate::Loaded;
-use object::{Name, Section, name_of};
-use text::dump::{Dump, line_of};
-use text::page::{write_decimal, write_letter, write_text};
-use text::table::{write_entry, write_marked};
+use crate::LoadError;
+use object::{ObjectError, name_of};
+use text::dump::{DumpError, line_of};
+use text::page::Page;
 
-// A sentence's number in the table, and the numbers that its first and its second mark stand for.
-#[derive(Clone, Copy)]
-struct Told(u64, u64, u64);
-
-fn told_of_section(section: Section) -> Told {
-    match section {
-        Section::At {
-            start: _,
-            length: _,
-        } => Told(0, 0, 0),
-        Section::NotElf => Told(1, 0, 0),
-        Section::Class(c) => Told(2, c as u64, 0),
-        Section::Data(d) => Told(3, d as u64, 0),
-        Section::Type(t) => Told(4, t, 0),
-        Section::Machine(m) => Told(5, m, 0),
-        Section::HeaderCut { length } => Told(6, length as u64, 0),
-        Section::EntrySize(n) => Told(7, n, 0),
-        Section::TableOutside { start, count } => Told(8, count, start),
-        Section::NamesOutside => Told(9, 0, 0),
-        Section::SectionOutside { number } => Told(10, number, 0),
-        Section::NoCode => Told(11, 0, 0),
-        Section::SeveralCodes { first, second } => Told(12, first, second),
-        Section::NoSuchName => Told(13, 0, 0),
-        Section::NotCode { number } => Told(14, number, 0),
-        Section::EmptyCode { number } => Told(15, number, 0),
-        Section::Relocated { number, by } => Told(16, number, by),
-    }
-}
-
-fn wide(b: u8) -> u64 {
-    b as u64
-}
-
-fn told_of_letter(file: &[u8], place: usize) -> Told {
-    if file.len() <= place {
-        return Told(17, 0, 0);
-    }
-    Told(18, line_of(file, place), wide(file[place]))
-}
-
-fn told_of_dump(file: &[u8], dump: Dump) -> Told {
-    match dump {
-        Dump::Are(_) => Told(0, 0, 0),
-        Dump::BadLetter { at } => told_of_letter(file, at),
-        Dump::OddDigits => Told(19, 0, 0),
-        Dump::TooLong => Told(20, 0, 0),
-        Dump::Empty => Told(21, 0, 0),
-    }
-}
-
-fn told_of(file: &[u8], loaded: Loaded) -> Told {
-    match loaded {
-        Loaded::InFile { start: _, end: _ } => Told(0, 0, 0),
-        Loaded::Spelled { length: _ } => Told(0, 0, 0),
-        Loaded::BadObject(section) => told_of_section(section),
-        Loaded::BadDump(dump) => told_of_dump(file, dump),
-        Loaded::Nothing => Told(22, 0, 0),
-    }
-}
-
-fn write_quoted(out: &mut [u8], at: usize, name: &[u8]) -> usize
-    requires { at ≤ length out.old }
-    ensures { (at ≤ result) × (result ≤ length out.old) }
+// A section by its name, or by its number where it has none, between two texts.
+fn write_section(page: &mut Page<'_>, before: &[u8], file: &[u8], number: usize, after: &[u8])
+    ensures { Longer page.old page.new }
 {
-    write_marked(out, at, b"'#'\n", 0, b'#', name)
+    page.text(before);
+    match name_of(file, number) {
+        Some(name) => {
+            page.letter(b'\'');
+            page.text(name);
+            page.letter(b'\'');
+        }
+        None => page.decimal(number as u64),
+    }
+    page.text(after);
 }
 
-// A section by its name, or by its number where it has none.
-fn write_section(out: &mut [u8], at: usize, file: &[u8], number: u64) -> usize
-    requires { at ≤ length out.old }
-    ensures { (at ≤ result) × (result ≤ length out.old) }
+fn write_object_error(page: &mut Page<'_>, file: &[u8], name: Option<&[u8]>, error: ObjectError)
+    ensures { Longer page.old page.new }
 {
-    let name = name_of(file, number);
-    match name {
-        Name::At { start, length } => write_quoted(out, at, &file[start..start + length]),
-        Name::None => write_decimal(out, at, number),
+    match error {
+        ObjectError::NotElf => page.text(
+            b"this is no ELF object, for it does not start with 7f 45 4c 46: leave out --elf and --section",
+        ),
+        ObjectError::Class(class) => page.number(
+            b"this ELF object is of class ",
+            u64::from(class),
+            b", not of class 2, 64 bits: compile with clang -O2 -target bpf -c",
+        ),
+        ObjectError::Data(encoding) => page.number(
+            b"this ELF object has data encoding ",
+            u64::from(encoding),
+            b", not 1, little-endian: compile with clang -O2 -target bpfel -c",
+        ),
+        ObjectError::Type(kind) => page.number(
+            b"this ELF file is of type ",
+            kind,
+            b", not of type 1, a relocatable object: compile with -c and do not link",
+        ),
+        ObjectError::Machine(machine) => page.number(
+            b"this ELF object is for machine ",
+            machine,
+            b", not for 247, BPF: compile with clang -O2 -target bpf -c",
+        ),
+        ObjectError::HeaderCut { length } => page.number(
+            b"this ELF object is cut short: it has ",
+            length as u64,
+            b" bytes, and its header alone has 64",
+        ),
+        ObjectError::EntrySize(size) => page.number(
+            b"its section headers have ",
+            size,
+            b" bytes each, not 64: the object is damaged",
+        ),
+        ObjectError::TableOutside { start, count } => {
+            page.number(b"its ", count, b" section headers, at byte ");
+            page.number(
+                b"",
+                start,
+                b", do not lie in the file: it is cut short or damaged",
+            );
+        }
+        ObjectError::NamesOutside => page.text(
+            b"the names of its sections do not lie in the file: it is cut short or damaged",
+        ),
+        ObjectError::SectionOutside { number } => write_section(
+            page,
+            b"section ",
+            file,
+            number,
+            b" does not lie in the file: it is cut short or damaged",
+        ),
+        ObjectError::NoCode => page.text(
+            b"no section holds a program: all executable ones are empty",
+        ),
+        ObjectError::SeveralCodes { first, second } => {
+            write_section(
+                page,
+                b"several sections hold programs, ",
+                file,
+                first,
+                b" and ",
+            );
+            write_section(
+                page,
+                b"",
+                file,
+                second,
+                b" among them: choose one with --section NAME",
+            );
+        }
+        ObjectError::NoSuchName => {
+            page.text(b"there is no section '");
+            page.text(name.unwrap_or(b""));
+            page.letter(b'\'');
+        }
+        ObjectError::NotCode { number } => write_section(
+            page,
+            b"section ",
+            file,
+            number,
+            b" holds no program: it is not executable",
+        ),
+        ObjectError::EmptyCode { number } => write_section(
+            page,
+            b"section ",
+            file,
+            number,
+            b" is empty",
+        ),
+        ObjectError::Relocated { number, by } => {
+            write_section(
+                page,
+                b"section ",
+                file,
+                number,
+                b" has relocations, in section ",
+            );
+            write_section(
+                page,
+                b"",
+                file,
+                by,
+                b": a probe calls no function and uses no global variable and no table of constants",
+            );
+        }
     }
 }
 
-fn letter_of(b: u8, n: u64) -> u8 {
-    if b == b'~' {
-        return (n % 256) as u8;
-    }
-    b
-}
-
-// A character of a sentence, or what it is a mark of: % of a number, @ of a section, $ of the section that was named, ~ of a character.
-fn write_mark(out: &mut [u8], at: usize, b: u8, n: u64, file: &[u8], name: &[u8]) -> usize
-    requires { at ≤ length out.old }
-    ensures { (at ≤ result) × (result ≤ length out.old) }
+fn write_letter_error(page: &mut Page<'_>, file: &[u8], at: usize)
+    ensures { Longer page.old page.new }
 {
-    match b {
-        b'%' => write_decimal(out, at, n),
-        b'@' => write_section(out, at, file, n),
-        b'$' => write_text(out, at, name),
-        _ => write_letter(out, at, letter_of(b, n)),
+    match file.get(at) {
+        Some(letter) => {
+            page.number(b"line ", line_of(file, at), b": '");
+            page.letter(*letter);
+            page.text(
+                b"' is no hexadecimal digit; a comment starts with #, and --raw reads bytes as they are",
+            );
+        }
+        None => page.text(b"a character is no hexadecimal digit"),
     }
 }
 
-// The number for the next mark.
-fn number_after(b: u8, n: u64, second: u64) -> u64 {
-    if (b == b'%') | (b == b'@') {
-        return second;
+fn write_dump_error(page: &mut Page<'_>, file: &[u8], error: DumpError)
+    ensures { Longer page.old page.new }
+{
+    match error {
+        DumpError::BadLetter { at } => write_letter_error(page, file, at),
+        DumpError::OddDigits => page.text(
+            b"the number of hexadecimal digits is odd, and a byte has two",
+        ),
+        DumpError::TooLong => page.text(b"the text spells too many bytes"),
+        DumpError::Empty => page.text(b"there are no hexadecimal digits in this text"),
     }
-    n
-}
-
-fn write_sentence(
-    out: &mut [u8],
-    at: usize,
-    sentence: &[u8],
-    first: u64,
-    second: u64,
-    file: &[u8],
-    name: &[u8],
-) -> usize
-    requires { at ≤ length out.old }
-    ensures { (at ≤ result) × (result ≤ length out.old) }
-{
-    let mut o = at;
-    let mut n = first;
-    let mut i = 0;
-    while i < sentence.len() {
-        o = write_mark(out, o, sentence[i], n, file, name);
-        n = number_after(sentence[i], n, second);
-        i += 1;
-    }
-    o
-}
-
-// Puts sentence k, with its marks. None has more than 120 characters.
-fn read_sentence(k: u64, out: &mut [u8]) -> usize
-    ensures { result ≤ length out.old }
-{
-    write_entry(
-        out,
-        0,
-        b"\n\
-        this is no ELF object, for it does not start with 7f 45 4c 46: leave out --elf and --section\n\
-        this ELF object is of class %, not of class 2, 64 bits: compile with clang -O2 -target bpf -c\n\
-        this ELF object has data encoding %, not 1, little-endian: compile with clang -O2 -target bpfel -c\n\
-        this ELF file is of type %, not of type 1, a relocatable object: compile with -c and do not link\n\
-        this ELF object is for machine %, not for 247, BPF: compile with clang -O2 -target bpf -c\n\
-        this ELF object is cut short: it has % bytes, and its header alone has 64\n\
-        its section headers have % bytes each, not 64: the object is damaged\n\
-        its % section headers, at byte %, do not lie in the file: it is cut short or damaged\n\
-        the names of its sections do not lie in the file: it is cut short or damaged\n\
-        section @ does not lie in the file: it is cut short or damaged\n\
-        no section holds a program: all executable ones are empty\n\
-        several sections hold programs, @ and @ among them: choose one with --section NAME\n\
-        there is no section '$'\n\
-        section @ holds no program: it is not executable\n\
-        section @ is empty\n\
-        section @ has relocations, in section @: \
-        a probe calls no function and uses no global variable and no table of constants\n\
-        a character is no hexadecimal digit\n\
-        line %: '~' is no hexadecimal digit; a comment starts with #, and --raw reads bytes as they are\n\
-        the number of hexadecimal digits is odd, and a byte has two\n\
-        the text spells too many bytes\n\
-        there are no hexadecimal digits in this text\n\
-        the file is empty\n",
-        k,
-    )
-}
-
-fn write_told(out: &mut [u8], at: usize, told: Told, file: &[u8], name: &[u8]) -> usize
-    requires { at ≤ length out.old }
-    ensures { (at ≤ result) × (result ≤ length out.old) }
-{
-    let mut sentence = [0u8; 160];
-    let n = read_sentence(told.0, &mut sentence);
-    write_sentence(out, at, &sentence[0..n], told.1, told.2, file, name)
 }
 
 // One line for standard error on the file at `path`, of which a section was perhaps named.
-pub fn complain(path: &[u8], file: &[u8], name: &[u8], loaded: Loaded, out: &mut [u8]) -> usize
-    ensures { result ≤ length out.old }
+pub fn complain(
+    page: &mut Page<'_>,
+    path: &[u8],
+    file: &[u8],
+    name: Option<&[u8]>,
+    error: LoadError,
+)
+    ensures { Longer page.old page.new }
 {
-    let told = told_of(file, loaded);
-    let a = write_marked(out, 0, b"probewarden: #: \n", 0, b'#', path);
-    let b = write_told(out, a, told, file, name);
-    write_letter(out, b, b'\n')
+    page.text(b"probewarden: ");
+    page.text(path);
+    page.text(b": ");
+    match error {
+        LoadError::Object(error) => write_object_error(page, file, name, error),
+        LoadError::Dump(error) => write_dump_error(page, file, error),
+        LoadError::Nothing => page.text(b"the file is empty"),
+    }
+    page.letter(b'\n');
 }

@@ -8,7 +8,8 @@ use native.Mathlib.Omega.{arith}
 use lib.Dec.{eqb}
 use Rattle.machine.specs.declared.instruction.Width.{Width}
 use Rattle.machine.specs.declared.instruction.Width.TheVariants.{Long, Short}
-use Rattle.machine.specs.Instruction.{Fields, arithmetic, jump, by_class}
+use Rattle.machine.specs.declared.instruction.Fields.{Fields}
+use Rattle.machine.specs.Instruction.{arithmetic, jump, by_class}
 
 module _ (f : Fields) (w : Width) (width : w ≡ cond (eqb (f.opcode % 2) 1) Long Short) where
   even : f.opcode % 2 ≡ 0 → w ≡ Short

@@ -13,7 +13,8 @@ use Rattle.machine.specs.declared.instruction.Operand.{Operand}
 use Rattle.machine.specs.declared.instruction.Operand.TheVariants.{Immediate, Register}
 use Rattle.machine.specs.declared.instruction.Instruction.{Instruction}
 use Rattle.machine.specs.declared.instruction.Instruction.TheVariants.{Alu, Neg, Jump, Always, Exit, Load, Store, NoInstruction}
-use Rattle.machine.specs.Instruction.{Fields, fields, meaning, decode}
+use Rattle.machine.specs.declared.instruction.Fields.{Fields}
+use Rattle.machine.specs.Instruction.{fields, meaning, decode}
 use Rattle.machine.specs.Machine.{is_no_instruction}
 use Rattle.machine.proofs.Proper.{size_code, imm_of, unmeaning, fields_equal, Proper}
 use Rattle.machine.proofs.Meaning.{unmeaning_meaning, meaning_proper}

@@ -16,7 +16,8 @@ use Rattle.machine.specs.declared.instruction.Operand.{Operand}
 use Rattle.machine.specs.declared.instruction.Operand.TheVariants.{Immediate, Register}
 use Rattle.machine.specs.declared.instruction.Instruction.{Instruction}
 use Rattle.machine.specs.declared.instruction.Instruction.TheVariants.{NoInstruction}
-use Rattle.machine.specs.Instruction.{Fields, only, Line, ◌means◌, lookup, with_operand, operations, arithmetic, comparisons, jump, loads, stores_of_imm, stores_of_src, load, store_of_imm, store_of_src, by_class, meaning}
+use Rattle.machine.specs.declared.instruction.Fields.{Fields}
+use Rattle.machine.specs.Instruction.{only, Line, ◌means◌, lookup, with_operand, operations, arithmetic, comparisons, jump, loads, stores_of_imm, stores_of_src, load, store_of_imm, store_of_src, by_class, meaning}
 use Rattle.machine.specs.Machine.{is_no_instruction}
 use Rattle.machine.proofs.Proper.{operation_code, comparison_code, size_code, class, jump_class, is_register, src_of, imm_of, unmeaning, fields_equal, ProperOperand, Proper, imm_back, off_back, imm_extended, off_extended}
 

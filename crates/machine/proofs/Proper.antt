@@ -20,7 +20,7 @@ use Rattle.machine.specs.declared.instruction.Operand.{Operand}
 use Rattle.machine.specs.declared.instruction.Operand.TheVariants.{Immediate, Register}
 use Rattle.machine.specs.declared.instruction.Instruction.{Instruction}
 use Rattle.machine.specs.declared.instruction.Instruction.TheVariants.{Alu, Neg, Jump, Always, Exit, Load, Store, NoInstruction}
-use Rattle.machine.specs.Instruction.{Fields}
+use Rattle.machine.specs.declared.instruction.Fields.{Fields}
 
 -- ---- the fields of an instruction
 

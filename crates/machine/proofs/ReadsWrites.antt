@@ -1,4 +1,5 @@
 -- What a step depends on and what it changes: no more than the registers of `reads`, and no register but that of `writes`.
+use Rattle.std.proofs.Common.{ℕ, Option, None, Some}
 use mathlib.Core.Path.{◌≡◌, refl, ap, ap₂, ◌∙◌}
 use mathlib.Core.Bool.{Bool, true, false, cond, ◌||◌}
 use mathlib.Core.List.Memᴰ
@@ -16,8 +17,6 @@ use Rattle.machine.specs.declared.instruction.Operand.{Operand}
 use Rattle.machine.specs.declared.instruction.Operand.TheVariants.{Immediate, Register}
 use Rattle.machine.specs.declared.instruction.Instruction.{Instruction}
 use Rattle.machine.specs.declared.instruction.Instruction.TheVariants.{Alu, Neg, Jump, Always, Exit, Load, Store, NoInstruction}
-use Rattle.machine.specs.declared.memory.Loaded.{Loaded}
-use Rattle.machine.specs.declared.memory.Loaded.TheVariants.{Value, Nowhere}
 use Rattle.machine.specs.declared.outcome.Cause.{Cause}
 use Rattle.machine.specs.declared.outcome.Cause.TheVariants as cause
 use Rattle.machine.specs.Instruction.{reads, writes, reads_operand, reads_dst}
@@ -124,10 +123,10 @@ module _ (w : World) (s t : State) (alike : Alike s t) where
   unfolding Same jumped
   jumped_same a b off e = (alike.stack, rw (e, alike.index), λ r m. absurd (Memᴰ.not-nil m))
 
-  load_same : (d : ℕ) (m : Loaded) → Same (d ∷ []) (after_load s d m) (after_load t d m)
+  load_same : (d : ℕ) (m : Option ℕ) → Same (d ∷ []) (after_load s d m) (after_load t d m)
   unfolding after_load
-  load_same d (Value v) = put_same d v v refl
-  load_same d Nowhere = fault_same (d ∷ []) cause.BadAccess
+  load_same d (Some v) = put_same d v v refl
+  load_same d None = fault_same (d ∷ []) cause.BadAccess
 
   store_same : (a : ℕ) (z : Size) (v : ℕ) → Same [] (after_store w s a z v) (after_store w t a z v)
   unfolding Same after_store
@@ -179,10 +178,10 @@ unfolding Keeps put content
 put_keeps t d v =
     (length-set t.registers d (Holds v), λ r n. get_or-set_other t.registers d r (Holds v) Unset (λ e. n (Memᴰ.head e)))
 
-load_keeps : (t : State) (d : ℕ) (m : Loaded) → Keeps (d ∷ []) t (after_load t d m)
+load_keeps : (t : State) (d : ℕ) (m : Option ℕ) → Keeps (d ∷ []) t (after_load t d m)
 unfolding after_load
-load_keeps t d (Value v) = put_keeps t d v
-load_keeps t d Nowhere = fault_keeps (d ∷ []) t cause.BadAccess
+load_keeps t d (Some v) = put_keeps t d v
+load_keeps t d None = fault_keeps (d ∷ []) t cause.BadAccess
 
 effect_keeps : (w : World) (t : State) (i : Instruction) → Keeps (writes i) t (effect w t i)
 unfolding Keeps effect writes content jumped after_store

@@ -6,6 +6,7 @@ use Rattle.word.specs.declared.Operation.TheVariants.{Add, Sub, Mul, Div, Or, An
 use Rattle.word.specs.declared.Operation.TheVariants as operation
 use Rattle.word.specs.declared.Comparison.{Comparison}
 use Rattle.word.specs.declared.Comparison.TheVariants.{Eq, Gt, Ge, Set, Ne, Sgt, Sge, Lt, Le, Slt, Sle}
+use Rattle.machine.specs.declared.instruction.Fields.{Fields}
 use Rattle.machine.specs.declared.instruction.Width.{Width}
 use Rattle.machine.specs.declared.instruction.Width.TheVariants.{Long, Short}
 use Rattle.machine.specs.declared.instruction.Size.{Size}
@@ -17,15 +18,7 @@ use Rattle.machine.specs.declared.instruction.Instruction.TheVariants.{Alu, Neg,
 
 -- ---- section 1: an instruction is eight bytes
 
--- off and imm as they stand, without their sign
-pub record Fields : Type 0 where
-  pub opcode : ℕ
-  pub dst : ℕ
-  pub src : ℕ
-  pub off : ℕ
-  pub imm : ℕ
-
--- the fields of the eight bytes of m at i
+-- the fields of the eight bytes of m at i; off and imm as they stand, without their sign
 unfoldable pub fields : List ℕ → ℕ → Fields
 fields m i =
     record { opcode = get_or m i 0; dst = get_or m (i + 1) 0 % 16; src = get_or m (i + 1) 0 / 16; off = read_bytes 2 m (i + 2); imm = read_bytes 4 m (i + 4) }

@@ -1,2 +1,4 @@
 pub mod Instruction
 pub mod Machine
+pub mod Decoding
+pub mod Ground

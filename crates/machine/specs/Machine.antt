@@ -1,5 +1,5 @@
 -- The machine of docs/MACHINE.md, section 5: what one step does, how a run goes, and what is refused before the first step.
-use Rattle.std.specs.Prelude.{Bool, true, false, not, cond, ◌&&◌, ◌||◌, List, [], ◌∷◌, ℕ, zero, suc, ◌+◌, ◌-◌, ◌*◌, ◌/◌, ◌%◌, ◌^◌, length, get_or, set, replicate, leb, ltb, eqb}
+use Rattle.std.specs.Prelude.{Bool, true, false, not, cond, Option, None, Some, ◌&&◌, ◌||◌, List, [], ◌∷◌, ℕ, zero, suc, ◌+◌, ◌-◌, ◌*◌, ◌/◌, ◌%◌, ◌^◌, length, get_or, set, replicate, leb, ltb, eqb}
 use Rattle.word.specs.Word.{alu, compare, read_bytes, write_bytes}
 use Rattle.word.specs.declared.Operation.TheVariants as operation
 use Rattle.machine.specs.declared.instruction.Width.{Width}
@@ -10,8 +10,6 @@ use Rattle.machine.specs.declared.instruction.Operand.{Operand}
 use Rattle.machine.specs.declared.instruction.Operand.TheVariants.{Immediate, Register}
 use Rattle.machine.specs.declared.instruction.Instruction.{Instruction}
 use Rattle.machine.specs.declared.instruction.Instruction.TheVariants.{Alu, Neg, Jump, Always, Exit, Load, Store, NoInstruction}
-use Rattle.machine.specs.declared.memory.Loaded.{Loaded}
-use Rattle.machine.specs.declared.memory.Loaded.TheVariants.{Value, Nowhere}
 use Rattle.machine.specs.declared.outcome.Cause.{Cause}
 use Rattle.machine.specs.declared.outcome.Cause.TheVariants as cause
 use Rattle.machine.specs.declared.outcome.Outcome.{Outcome}
@@ -87,16 +85,16 @@ address base off = (base + off) % 2 ^ 64
 unfoldable pub within : ℕ → ℕ → ℕ → ℕ → Bool
 within base len a n = leb base a && leb (a + n) (base + len)
 
--- a load reads the record or the stack, lowest byte first
-unfoldable pub loaded : World → List ℕ → ℕ → Size → Loaded
+-- a load reads the record or the stack, lowest byte first; None where it lies in neither
+unfoldable pub loaded : World → List ℕ → ℕ → Size → Option ℕ
 loaded w stack a size =
-    cond (within w.P (length w.rec) a (bytes size)) (Value (read_bytes (bytes size) w.rec (a - w.P)))
-    (cond (within w.S (length stack) a (bytes size)) (Value (read_bytes (bytes size) stack (a - w.S)))
-    Nowhere)
+    cond (within w.P (length w.rec) a (bytes size)) (Some (read_bytes (bytes size) w.rec (a - w.P)))
+    (cond (within w.S (length stack) a (bytes size)) (Some (read_bytes (bytes size) stack (a - w.S)))
+    None)
 
-unfoldable pub after_load : State → ℕ → Loaded → After
-after_load t dst (Value v) = goes (put t dst v)
-after_load t dst Nowhere = faults cause.BadAccess
+unfoldable pub after_load : State → ℕ → Option ℕ → After
+after_load t dst (Some v) = goes (put t dst v)
+after_load t dst None = faults cause.BadAccess
 
 -- a store writes the stack alone
 unfoldable pub after_store : World → State → ℕ → Size → ℕ → After

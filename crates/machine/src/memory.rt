@@ -1,53 +1,44 @@
 // Memory as a probe sees it: the record, which it may read, and the stack, which it may read and write.
 // An access is tested here; one that doesn't lie wholly where it may changes nothing.
-ghost use Rattle.std.specs.Prelude.{◌≡◌, cond, ℕ, ◌+◌, ◌-◌, ◌≤◌, ◌<◌, ◌^◌, length};
+#![tactic(auto, unfolding(crate::specs::Machine::within, crate::specs::Machine::bytes, crate::specs::Machine::loaded, word::specs::Word::write_bytes, word::specs::Word::read_bytes))]
+
+ghost use Rattle.std.specs.Prelude.{◌≡◌, cond, ℕ, None, Some, ◌+◌, ◌-◌, ◌≤◌, ◌<◌, ◌^◌, length};
 ghost use Rattle.word.specs.Word.{read_bytes, write_bytes};
-ghost use Rattle.machine.specs.Machine.{World, bytes, within, loaded};
+ghost use Rattle.machine.specs.Ground.{world_of};
+ghost use Rattle.machine.specs.Machine.{bytes, within, loaded};
 
 use crate::instruction::Size;
 
-// What a load finds.
+// What a run has before it: the record, and the addresses that the probe is told of the record and of the stack.
 #[derive(Clone, Copy)]
-pub enum Loaded {
-    Value(u64),
-    Nowhere,
-}
-
-// Where in a buffer an access lies.
-#[derive(Clone, Copy)]
-pub enum Place {
-    At(usize),
-    Outside,
+pub struct Ground<'a> {
+    pub rec: &'a [u8],
+    pub p: u64,
+    pub s: u64,
 }
 
 pub fn byte_count(size: Size) -> usize
     ensures { (result ≡ bytes size) × (result ≤ 8) }
 {
-    match size {
-        Size::One => 1,
-        Size::Two => 2,
-        Size::Four => 4,
-        Size::Eight => 8,
-    }
+    size as usize
 }
 
-// Where the n bytes at the address a lie in the len bytes at base.
-fn locate(base: u64, len: usize, a: u64, n: usize) -> Place
-    ensures { result ≡ cond (within base len a n) (Place.At (a - base)) Place.Outside }
+// Where the n bytes at the address a lie in the len bytes at base, if they lie there.
+fn locate(base: u64, len: usize, a: u64, n: usize) -> Option<usize>
+    ensures { result ≡ cond (within base len a n) (Some (a - base)) None }
 {
-    if a < base {
-        return Place::Outside;
+    if a < base || len < n {
+        return None;
     }
     let i = (a - base) as usize;
-    if len < n {
-        return Place::Outside;
-    }
     if len - n < i {
-        return Place::Outside;
+        return None;
     }
-    Place::At(i)
+    Some(i)
 }
 
+// Kept: two, four and eight bytes are each two halves, joined. One function over the count would name half of a const parameter, which the
+// language has not, or would loop, and of a loop the compiler makes no single load.
 pub fn fetch1(m: &[u8], i: usize) -> u64
     requires { i + 1 ≤ length m.now }
     ensures { result ≡ read_bytes 1 m.now i }
@@ -91,17 +82,16 @@ fn get(m: &[u8], i: usize, size: Size) -> u64
 }
 
 // What a load at the address a finds, in the record or in the stack.
-pub fn load(rec: &[u8], stack: &[u8], p: u64, s: u64, a: u64, size: Size) -> Loaded
-    ensures { result ≡ loaded (record { rec = rec.now; P = p; S = s }) stack.now a size }
+pub fn load(ground: Ground, stack: &[u8], a: u64, size: Size) -> Option<u64>
+    ensures { result ≡ loaded (world_of ground.entry) stack.now a size }
 {
     let n = byte_count(size);
-    match locate(p, rec.len(), a, n) {
-        Place::At(i) => Loaded::Value(get(rec, i, size)),
-        Place::Outside => match locate(s, stack.len(), a, n) {
-            Place::At(i) => Loaded::Value(get(stack, i, size)),
-            Place::Outside => Loaded::Nowhere,
-        },
+    let rec = ground.rec;
+    if let Some(i) = locate(ground.p, rec.len(), a, n) {
+        return Some(get(rec, i, size));
     }
+    let i = locate(ground.s, stack.len(), a, n)?;
+    Some(get(stack, i, size))
 }
 
 fn put2(m: &mut [u8], i: usize, x: u64)
@@ -148,11 +138,9 @@ pub fn store(stack: &mut [u8], s: u64, a: u64, size: Size, x: u64) -> bool
     ensures allowed { result ≡ within s (length stack.old) a (bytes size) }
     ensures made { stack.new ≡ cond result (write_bytes (bytes size) stack.old (a - s) x) stack.old }
 {
-    match locate(s, stack.len(), a, byte_count(size)) {
-        Place::At(i) => {
-            put(stack, i, size, x);
-            true
-        }
-        Place::Outside => false,
-    }
+    let Some(i) = locate(s, stack.len(), a, byte_count(size)) else {
+        return false;
+    };
+    put(stack, i, size, x);
+    true
 }

@@ -1,13 +1,13 @@
 // What a run comes to.
 
-// Why an instruction is not carried out.
+// Why an instruction is not carried out, by its number in docs/MACHINE.md, section 5.
 #[derive(Clone, Copy)]
 pub enum Cause {
-    BadCode,
-    OffEnd,
-    Unset,
-    WriteR10,
-    BadAccess,
+    BadCode = 1,
+    OffEnd = 2,
+    Unset = 3,
+    WriteR10 = 4,
+    BadAccess = 5,
 }
 
 // How a run ends: with a verdict, at an instruction that faults, with its budget spent, or before the first step.

@@ -7,6 +7,7 @@ use native.Mathlib.Nat.{lt_of_le_of_lt}
 use native.Mathlib.Decide.{ℕ_discrete}
 use native.Mathlib.Omega.{arith}
 use lib.Bits.{bit_and, or_zero_r}
+use Rattle.std.specs.Prelude.{Some, None}
 use Rattle.word.specs.Word.{compare}
 use Rattle.word.specs.declared.Comparison.{Comparison}
 use Rattle.word.specs.declared.Comparison.TheVariants.{Set}
@@ -16,8 +17,7 @@ use Rattle.known_bits.specs.Pair.{exactly}
 use Rattle.known_bits.proofs.Laws.{unique, exact_mem}
 use Rattle.number.specs.declared.Range.{Range}
 use Rattle.number.specs.declared.Number.{Number}
-use Rattle.number.specs.declared.Refined.{Refined}
-use Rattle.number.specs.declared.Refined.TheVariants.{Excluded, Possible}
+use Rattle.number.specs.Refined.{Refined}
 use Rattle.number.specs.Meaning.{Within, In, Narrower, Tightest, Kept, Left, Going}
 use Rattle.number.specs.Sharpen.{narrowed, exact, just}
 use Rattle.number.specs.Compare.{bounds, common, equal, ordered, unequal, disjoint, resharpened, refined}
@@ -169,7 +169,7 @@ module _ (c : Comparison) (way : Bool) (unsigned : Unsigned c) (d : Number) (k :
   reached = told_reaches (unsigned_is_plain way unsigned) d k
 
   -- where no number of the range goes the way, the way is excluded
-  pub excluded_if_none_goes : ((x : ℕ) → Going c way d.range k x → ⊥) → refined c way d (exact k) ≡ Excluded
+  pub excluded_if_none_goes : ((x : ℕ) → Going c way d.range k x → ⊥) → refined c way d (exact k) ≡ None
   excluded_if_none_goes none =
       refined_is_told c way d (exact k)
       ∙ nothing_left (told (relation c way) d (exact k)) ((x : ℕ) × Standing (relation c way) d.range k x)
@@ -231,14 +231,14 @@ left_of_exact n x h i =
     high_end = omega (arith, h.range, i.range)
 
 pub refined_exact : (c : Comparison) (way : Bool) (x y : ℕ) → x < 2 ^ 64 → y < 2 ^ 64 → compare 64 c x y ≡ way
-    → refined c way (exact x) (exact y) ≡ Possible (exact x) (exact y)
+    → refined c way (exact x) (exact y) ≡ Some (exact x, exact y)
 refined_exact c way x y hx hy e =
     both (refined c way (exact x) (exact y)) (refined_sound c way (exact x) (exact y) x y (exact_has x hx) (exact_has y hy) e)
     (refined_narrower c way (exact x) (exact y) (exact_has x hx).form (exact_has y hy).form)
   where
-    both : (r : Refined) → Kept r x y → Left r (λ d' s'. Narrower d' (exact x) × Narrower s' (exact y)) → r ≡ Possible (exact x) (exact y)
-    both Excluded k h = absurd k
-    both (Possible d' s') k h = ap₂ Possible (left_of_exact d' x h.0 k.0) (left_of_exact s' y h.1 k.1)
+    both : (r : Refined) → Kept r x y → Left r (λ d' s'. Narrower d' (exact x) × Narrower s' (exact y)) → r ≡ Some (exact x, exact y)
+    both None k h = absurd k
+    both (Some (d', s')) k h = ap₂ (λ (m n : Number). Some (m, n)) (left_of_exact d' x h.0 k.0) (left_of_exact s' y h.1 k.1)
 
 at_exact : (r : Relation) (S T : ℕ → Type 0) (x y : ℕ) → ((z : ℕ) → S z → z ≡ x) → ((z : ℕ) → T z → z ≡ y) → Possibly r S T → Holds r x y
 at_exact r S T x y is_x is_y p =
@@ -283,7 +283,7 @@ not_both true e = true≢false e
 not_both false e = false≢true e
 
 pub refined_exact_excluded : (c : Comparison) (way : Bool) (x y : ℕ) → x < 2 ^ 64 → y < 2 ^ 64 → compare 64 c x y ≡ not way
-    → refined c way (exact x) (exact y) ≡ Excluded
+    → refined c way (exact x) (exact y) ≡ None
 refined_exact_excluded c way x y hx hy e =
     refined_is_told c way (exact x) (exact y)
     ∙ nothing_left (told (relation c way) (exact x) (exact y)) (Holds (relation c way) x y) (possible_if_it_holds (relation c way) x y hx hy)

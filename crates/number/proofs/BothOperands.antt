@@ -3,17 +3,16 @@ use mathlib.Core.Path.{◌≡◌, refl, sym, subst}
 use mathlib.Core.Bool.{Bool, true, false}
 use Prim.Native.Nat.{ℕ}
 use lib.Bits.{bit_and}
+use Rattle.std.specs.Prelude.{Option, Some, None}
 use Rattle.word.specs.Word.{compare}
 use Rattle.word.specs.declared.Comparison.{Comparison}
 use Rattle.word.specs.declared.Comparison.TheVariants.{Eq, Ne, Gt, Ge, Lt, Le, Set}
+use Rattle.known_bits.specs.declared.Bits.{Bits}
 use Rattle.known_bits.specs.KnownBits.{Well, Mem}
-use Rattle.known_bits.specs.declared.Learnt.{Learnt}
-use Rattle.known_bits.specs.declared.Learnt.TheVariants.{Nothing, Pair}
 use Rattle.known_bits.specs.Formula.{met}
 use Rattle.number.specs.declared.Range.{Range}
 use Rattle.number.specs.declared.Number.{Number}
-use Rattle.number.specs.declared.Refined.{Refined}
-use Rattle.number.specs.declared.Refined.TheVariants.{Excluded, Possible}
+use Rattle.number.specs.Refined.{Refined}
 use Rattle.number.specs.Meaning.{Narrower, Left}
 use Rattle.number.specs.Sharpen.{sharpened}
 use Rattle.number.specs.Compare.{exchanged, ordered, common, equal_by, equal, resharpened, disjoint, turned, turned_back, signed_ordered, refined}
@@ -37,10 +36,10 @@ bounded_above : (gap : ℕ) (d s : Number) → Left (exchanged (ordered gap s d)
 bounded_above gap d s = exchanged_leaves (ordered gap s d) (λ d' s'. Ordered gap s d s' d') (bounded gap s d)
 
 -- ---- equality: one Number is left of both
-equal_by_leaves_one : (r : Learnt) (t : Range) → Left (equal_by r t) (λ d' s'. d' ≡ s')
+equal_by_leaves_one : (r : Option Bits) (t : Range) → Left (equal_by r t) (λ d' s'. d' ≡ s')
 unfolding equal_by
-equal_by_leaves_one Nothing t = tt
-equal_by_leaves_one (Pair p) t = settled_leaves (sharpened p t) (sharpened p t) (λ d' s'. d' ≡ s') (λ a b. refl)
+equal_by_leaves_one None t = tt
+equal_by_leaves_one (Some p) t = settled_leaves (sharpened p t) (sharpened p t) (λ d' s'. d' ≡ s') (λ a b. refl)
 
 equal_leaves_one : (d s : Number) → Left (equal d s) (λ d' s'. d' ≡ s')
 unfolding equal
@@ -56,8 +55,8 @@ equal_leaves_both d s gd gs =
 module _ (d s : Number) (gd : Well 64 d.bits) (gs : Well 64 s.bits) where
   turned_back_lem : (r : Refined) → Left r (λ u v. Well 64 u.bits × Well 64 v.bits) → Left (turned_back d s r) (RaisedBy r)
   unfolding turned_back turned
-  turned_back_lem Excluded h = tt
-  turned_back_lem (Possible u v) h =
+  turned_back_lem None h = tt
+  turned_back_lem (Some (u, v)) h =
       firsts_leave (equal d (turned u)) (equal s (turned v)) (λ d'. Narrower d' (turned u)) (λ s'. Narrower s' (turned v))
       (left_map (equal d (turned u)) _ (λ d' s'. Narrower d' (turned u)) (λ d' s' k. k.0)
       (equal_leaves_both d (turned u) gd (turned_form u)))
@@ -75,9 +74,9 @@ module _ (d s : Number) (gd : Well 64 d.bits) (gs : Well 64 s.bits) where
 -- exchanged on both sides
 raised_exchanged : (r q : Refined) → Left r (RaisedBy q) → Left (exchanged r) (RaisedBy (exchanged q))
 unfolding exchanged
-raised_exchanged Excluded q h = tt
-raised_exchanged (Possible d s) Excluded h = h
-raised_exchanged (Possible d s) (Possible u v) h = (h.1, h.0)
+raised_exchanged None q h = tt
+raised_exchanged (Some (d, s)) None h = h
+raised_exchanged (Some (d, s)) (Some (u, v)) h = (h.1, h.0)
 
 module _ (d s : Number) (gd : Well 64 d.bits) (gs : Well 64 s.bits) where
   signed_above_lem : (gap : ℕ) → Left (exchanged (signed_ordered gap s d)) (RaisedBy (exchanged (ordered gap (raised s) (raised d))))
@@ -110,7 +109,7 @@ module _ (d s : Number) (gd : Well 64 d.bits) (gs : Well 64 s.bits) where
       (disjoint_leaves d s gd gs))
 
   jset_excluded : (way : Bool) → ((x y : ℕ) → Mem 64 d.bits x → Mem 64 s.bits y → compare 64 Set x y ≡ way → ⊥)
-      → refined Set way d s ≡ Excluded
+      → refined Set way d s ≡ None
   jset_excluded way none =
       set_excluded_by_bits way d s gd gs (λ x y i j. none x y ((resharpened_narrower d).bits x i) ((resharpened_narrower s).bits y j))
 

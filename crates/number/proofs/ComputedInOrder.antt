@@ -21,7 +21,7 @@ use Rattle.number.specs.Sharpen.{narrowed, joined_range, joined_number}
 use Rattle.number.specs.Computed.{modulo, second, computed_range, computed}
 use Rattle.number.proofs.Known.{low_of_words}
 use Rattle.number.proofs.Operands.{block_of_more, Wide, base, base_is_power, second_is_modulo, modulo_in, modulo_below, second_below}
-use Rattle.number.proofs.Outcomes.{Some}
+use Rattle.number.proofs.Outcomes.{NotEmpty}
 use Rattle.number.proofs.RangedInOrder.{ranged_shrinks}
 use Rattle.number.proofs.RangesInOrder.{Shrinks, block_shrinks}
 use Rattle.number.proofs.Results.{wide_at_most_64}
@@ -30,7 +30,7 @@ use Rattle.number.proofs.Shorter.{block_of_small}
 
 -- ---- the operands
 module _ (j : ℕ) (small : j ≤ 64) (n' n : Number) (g' : Well 64 n'.bits) (g : Well 64 n.bits) (h : Narrower n' n) where
-  pub modulo_shrinks : Some n'.range → Some (modulo (2 ^ j) n') → Shrinks (modulo (2 ^ j) n') (modulo (2 ^ j) n)
+  pub modulo_shrinks : NotEmpty n'.range → NotEmpty (modulo (2 ^ j) n') → Shrinks (modulo (2 ^ j) n') (modulo (2 ^ j) n)
   unfolding modulo
   modulo_shrinks some s =
       let b = block_shrinks (2 ^ j) n'.range n.range (pow_pos j) (record { within = h.range; some = some }) in
@@ -43,10 +43,10 @@ module _ (j : ℕ) (small : j ≤ 64) (n' n : Number) (g' : Well 64 n'.bits) (g 
 -- a Number that can be an operand, as far as its range tells: it is not empty, nor is what the operation takes of it
 pub record Operand (m : ℕ) (n : Number) : Type 0 where
   pub form : Well 64 n.bits
-  pub some : Some n.range
-  pub taken : Some (modulo m n)
+  pub some : NotEmpty n.range
+  pub taken : NotEmpty (modulo m n)
 
-some_in : (n : Number) (x : ℕ) → In n x → Some n.range
+some_in : (n : Number) (x : ℕ) → In n x → NotEmpty n.range
 some_in n x i = le_trans i.range.low i.range.high
 
 pub operand_of_member : (j : ℕ) → j ≤ 64 → (n : Number) (x : ℕ) → In n x → Operand (2 ^ j) n
@@ -55,7 +55,7 @@ operand_of_member j h n x i =
     record { form = i.form; some = some_in n x i; taken = le_trans u.low u.high }
 
 -- one whose pair has j bits serves modulo 2 ^ j if some number is left between the ends of its pair
-pub operand_of_bounds : (j : ℕ) (n : Number) → Well 64 n.bits → top n.bits < 2 ^ j → Some (narrowed n.bits n.range)
+pub operand_of_bounds : (j : ℕ) (n : Number) → Well 64 n.bits → top n.bits < 2 ^ j → NotEmpty (narrowed n.bits n.range)
     → Operand (2 ^ j) n
 unfolding modulo narrowed
 operand_of_bounds j n g h s = record { form = g; some = omega (arith, s); taken = go (dec_lt n.range.hi (2 ^ j)) }
@@ -72,11 +72,11 @@ operand_of_bounds j n g h s = record { form = g; some = omega (arith, s); taken 
     low_fits : n.range.lo < 2 ^ j
     low_fits = omega (arith, s, h)
 
-    go : Dec (n.range.hi < 2 ^ j) → Some (modulo (2 ^ j) n)
+    go : Dec (n.range.hi < 2 ^ j) → NotEmpty (modulo (2 ^ j) n)
     go (yes l) = rw (block_of_small (2 ^ j) n.range (record { low = low_fits; high = l })) (omega (arith, s, v, t))
     go (no l) = rw (block_of_more (2 ^ j) n.range low_fits (omega arith)) (omega (arith, s, v, t, h, b))
 
-pub word_operand : (n : Number) → Well 64 n.bits → Some (narrowed n.bits n.range) → Operand (2 ^ 64) n
+pub word_operand : (n : Number) → Well 64 n.bits → NotEmpty (narrowed n.bits n.range) → Operand (2 ^ 64) n
 word_operand n g s = operand_of_bounds 64 n g (mem_top 64 n.bits g).fits s
 
 module _ (w : ℕ) (wide : Wide w) (op : Operation) (a' b' a b : Number) (ga : Well 64 a.bits) (gb : Well 64 b.bits)
@@ -86,7 +86,7 @@ module _ (w : ℕ) (wide : Wide w) (op : Operation) (a' b' a b : Number) (ga : W
   second_shrinks =
       let p = base_is_power w wide op in
       rw (second_is_modulo w op b', second_is_modulo w op b, p.2)
-      (modulo_shrinks p.0 p.1 b' b ob.form gb hb ob.some (subst (λ (m : ℕ). Some (modulo m b')) p.2 ob.taken))
+      (modulo_shrinks p.0 p.1 b' b ob.form gb hb ob.some (subst (λ (m : ℕ). NotEmpty (modulo m b')) p.2 ob.taken))
 
   computed_range_shrinks : Shrinks (computed_range w op a' b') (computed_range w op a b)
   unfolding computed_range
@@ -96,7 +96,7 @@ module _ (w : ℕ) (wide : Wide w) (op : Operation) (a' b' a b : Number) (ga : W
       oa.taken) second_shrinks
       (modulo_below w a) (second_below w wide op b))
 
-  pub computed_in_order : Some (computed w op a' b').range → Narrower (computed w op a' b') (computed w op a b)
+  pub computed_in_order : NotEmpty (computed w op a' b').range → Narrower (computed w op a' b') (computed w op a b)
   unfolding computed
   computed_in_order =
       sharpened_in_order _ _ ((calculated_computed w wide op a'.bits b'.bits).sound oa.form ob.form).well
@@ -111,7 +111,7 @@ module _ (w : ℕ) (wide : Wide w) (op : Operation) (a' b' a b : Number) (ga' : 
   pub computed_narrower : NoneEmpty w op a' b' → Narrower (computed w op a' b') (computed w op a b)
   computed_narrower n =
       computed_in_order w wide op a' b' a b ga gb ha hb (record { form = ga'; some = n.first; taken = n.first_taken })
-      (record { form = gb'; some = n.other; taken = subst Some (second_is_modulo w op b') n.other_taken }) n.result
+      (record { form = gb'; some = n.other; taken = subst NotEmpty (second_is_modulo w op b') n.other_taken }) n.result
 
 -- ---- where paths join
 module _ (a' b' a b : Number) (ga' : Well 64 a'.bits) (gb' : Well 64 b'.bits) (ga : Well 64 a.bits) (gb : Well 64 b.bits)

@@ -5,9 +5,8 @@ use native.Mathlib.Nat.{le_trans}
 use native.Mathlib.Decide.{ℕ_discrete, dec_lt}
 use native.Mathlib.Omega.{arith}
 use borrow.Author.Tests.{eq-eqb, ne_eqb, lt-ltb, le-ltb}
+use Rattle.std.specs.Prelude.{Option, Some, None}
 use Rattle.known_bits.specs.declared.Bits.{Bits}
-use Rattle.known_bits.specs.declared.Learnt.{Learnt}
-use Rattle.known_bits.specs.declared.Learnt.TheVariants.{Pair, Nothing}
 use Rattle.known_bits.specs.KnownBits.{Well, Both}
 use Rattle.known_bits.specs.Learn.{Learns}
 use Rattle.known_bits.specs.Formula.{met}
@@ -21,14 +20,14 @@ use Rattle.number.specs.Sharpen.{sharpened}
 use Rattle.number.specs.Compare.{bounds, common, equal_by, equal, empty, without, apart_from, unequal}
 use Rattle.known_bits.proofs.LearnLaws.{met_learns}
 use Rattle.number.proofs.Sharpening.{sharpened_keeps, sharpened_form, sharpened_bits_within, sharpened_range_within, sharpened_above_least, sharpened_below_top}
-use Rattle.number.proofs.Outcomes.{Some, some_of_within, Sharper, left_both, left_map, settled_keeps, settled_leaves}
+use Rattle.number.proofs.Outcomes.{NotEmpty, some_of_within, Sharper, left_both, left_map, settled_keeps, settled_leaves}
 use Rattle.number.proofs.Orders.{bounds_have, bounds_within_range, sharpened_narrower}
 
 -- ---- equality
-equal_by_sound : (a b : Bits) (r : Learnt) (t : Range) (x : ℕ) → Learns (Both a b) r → Both a b x → Within t x → Kept (equal_by r t) x x
+equal_by_sound : (a b : Bits) (r : Option Bits) (t : Range) (x : ℕ) → Learns (Both a b) r → Both a b x → Within t x → Kept (equal_by r t) x x
 unfolding equal_by
-equal_by_sound a b Nothing t x h m w = h.answer x m
-equal_by_sound a b (Pair p) t x h m w =
+equal_by_sound a b None t x h m w = h.answer x m
+equal_by_sound a b (Some p) t x h m w =
     let i = sharpened_keeps p t x h.answer.0.well (h.answer.0.sound x m) w in
     settled_keeps (sharpened p t) (sharpened p t) x x i i
 
@@ -42,13 +41,13 @@ equal_sound d s x hd hs =
 pub record RangesLeft (t : Range) (d' s' : Number) : Type 0 where
   pub first : RangeWithin d'.range t
   pub second : RangeWithin s'.range t
-  pub some_first : Some d'.range
-  pub some_second : Some s'.range
+  pub some_first : NotEmpty d'.range
+  pub some_second : NotEmpty s'.range
 
-equal_by_leaves_ranges : (r : Learnt) (t : Range) → Left (equal_by r t) (RangesLeft t)
+equal_by_leaves_ranges : (r : Option Bits) (t : Range) → Left (equal_by r t) (RangesLeft t)
 unfolding equal_by
-equal_by_leaves_ranges Nothing t = tt
-equal_by_leaves_ranges (Pair p) t =
+equal_by_leaves_ranges None t = tt
+equal_by_leaves_ranges (Some p) t =
     let k = sharpened_range_within p t in
     settled_leaves (sharpened p t) (sharpened p t) (RangesLeft t) (λ a b. record { first = k; second = k; some_first = a; some_second = b })
 
@@ -66,10 +65,10 @@ pub record BitsLeft (a b : Bits) (d' s' : Number) : Type 0 where
   pub above_least : a.value ≤ d'.range.lo
   pub below_top : d'.range.hi ≤ top a
 
-equal_by_leaves_bits : (a b : Bits) (r : Learnt) (t : Range) → Well 64 a → Well 64 b → Learns (Both a b) r → Left (equal_by r t) (BitsLeft a b)
+equal_by_leaves_bits : (a b : Bits) (r : Option Bits) (t : Range) → Well 64 a → Well 64 b → Learns (Both a b) r → Left (equal_by r t) (BitsLeft a b)
 unfolding equal_by
-equal_by_leaves_bits a b Nothing t ga gb h = tt
-equal_by_leaves_bits a b (Pair p) t ga gb h =
+equal_by_leaves_bits a b None t ga gb h = tt
+equal_by_leaves_bits a b (Some p) t ga gb h =
     let k = sharpened_bits_within p t in
     let f = h.answer.0.least a ga (λ z i. i.0) in
     let g = h.answer.0.well in
@@ -127,11 +126,11 @@ module _ (k : ℕ) (u : Range) where
       go (no p) (no q) = rw (ne_eqb u.lo k p, ne_eqb u.hi k q) w
 
   -- what is left, if there is any, lies in the range, and k is no end of it
-  without_within : Some (without k u) → RangeWithin (without k u) u × (u.lo ≡ k → k < (without k u).lo) × (u.hi ≡ k → (without k u).hi < k)
+  without_within : NotEmpty (without k u) → RangeWithin (without k u) u × (u.lo ≡ k → k < (without k u).lo) × (u.hi ≡ k → (without k u).hi < k)
   unfolding without empty
   without_within = go (ℕ_discrete u.lo k) (ℕ_discrete u.hi k) (dec_lt k u.hi) (dec_lt u.lo k)
     where
-      go : Dec (u.lo ≡ k) → Dec (u.hi ≡ k) → Dec (k < u.hi) → Dec (u.lo < k) → Some (without k u)
+      go : Dec (u.lo ≡ k) → Dec (u.hi ≡ k) → Dec (k < u.hi) → Dec (u.lo < k) → NotEmpty (without k u)
           → RangeWithin (without k u) u × (u.lo ≡ k → k < (without k u).lo) × (u.hi ≡ k → (without k u).hi < k)
       go (yes p) q (yes l) m =
           rw (eq-eqb u.lo k p, lt-ltb k u.hi l) (λ s. (record { low = omega arith; high = omega arith }, λ e. omega arith, λ e. omega arith))
@@ -157,11 +156,11 @@ module _ (u v : Range) where
     pub no_lower_end : v.lo ≡ v.hi → u.lo ≡ v.lo → v.lo < t.lo
     pub no_upper_end : v.lo ≡ v.hi → u.hi ≡ v.lo → t.hi < v.lo
 
-  pub apart_leaves : Some (apart_from u v) → ApartLeft (apart_from u v)
+  pub apart_leaves : NotEmpty (apart_from u v) → ApartLeft (apart_from u v)
   unfolding apart_from
   apart_leaves = go (ℕ_discrete v.lo v.hi)
     where
-      go : Dec (v.lo ≡ v.hi) → Some (apart_from u v) → ApartLeft (apart_from u v)
+      go : Dec (v.lo ≡ v.hi) → NotEmpty (apart_from u v) → ApartLeft (apart_from u v)
       go (yes e) =
           rw (eq-eqb v.lo v.hi e)
           (λ s. let h = without_within v.lo u s in record { within = h.0; no_lower_end = λ i. h.1; no_upper_end = λ i. h.2 })

@@ -5,6 +5,7 @@ use mathlib.Core.Bool.{Bool, true, false}
 use Prim.Native.Nat.{ℕ, ◌^◌, ◌<◌, max}
 use native.Mathlib.Nat.{lt_of_le_of_lt}
 use native.Mathlib.Omega.{arith}
+use Rattle.std.specs.Prelude.{None}
 use Rattle.word.specs.Word.{compare}
 use Rattle.word.specs.declared.Comparison.{Comparison}
 use Rattle.word.specs.declared.Comparison.TheVariants.{Set}
@@ -13,10 +14,9 @@ use Rattle.known_bits.specs.Pair.{top}
 use Rattle.known_bits.proofs.Tight.{mem_least, mem_top}
 use Rattle.number.specs.declared.Range.{Range}
 use Rattle.number.specs.declared.Number.{Number}
-use Rattle.number.specs.declared.Refined.TheVariants.{Excluded}
 use Rattle.number.specs.Meaning.{Within, Left}
 use Rattle.number.specs.Compare.{common, equal, ordered, unequal, disjoint, overlapping, signed_ordered, resharpened, refined}
-use Rattle.number.proofs.Outcomes.{Some, Sharper, left_map, nothing_left, exchanged_leaves}
+use Rattle.number.proofs.Outcomes.{NotEmpty, Sharper, left_map, nothing_left, exchanged_leaves}
 use Rattle.number.proofs.Relations.{Relation, Below, SignedBelow, Exchanged, Same, Different, Disjoint, Overlapping, Holds, Ordering, told, relation, refined_is_told, all_but_set_are_orderings}
 use Rattle.number.proofs.WordsGo.{goes_if_it_holds}
 use Rattle.number.proofs.Orders.{OrderLeft, ordered_leaves, bounds_within_range, bounds_within_ends, ends}
@@ -32,11 +32,11 @@ exchanged_possibly : (r : Relation) (S T : ℕ → Type 0) → Possibly r S T �
 exchanged_possibly r S T h = (h.1, h.0, h.3, h.2, h.4)
 
 -- ---- by ranges
-ends_of_some : (r : Range) → Some r → Within r r.lo × Within r r.hi
+ends_of_some : (r : Range) → NotEmpty r → Within r r.lo × Within r r.hi
 ends_of_some r s = (record { low = omega arith; high = s }, record { low = s; high = omega arith })
 
 -- what is left is not empty, so what was there is not
-some_before : (d s d' s' : Number) → Sharper d s d' s' → Some d.range × Some s.range
+some_before : (d s d' s' : Number) → Sharper d s d' s' → NotEmpty d.range × NotEmpty s.range
 some_before d s d' s' h =
     let a = h.first.range in
     let b = h.second.range in
@@ -92,7 +92,7 @@ possible_by_ranges Overlapping o d s gd gs hd hs = absurd o
 
 pub excluded_by_ranges : (c : Comparison) (way : Bool) (d s : Number) → ¬ (c ≡ Set) → Well 64 d.bits → Well 64 s.bits
     → d.range.hi < 2 ^ 64 → s.range.hi < 2 ^ 64
-    → ((x y : ℕ) → Within d.range x → Within s.range y → compare 64 c x y ≡ way → ⊥) → refined c way d s ≡ Excluded
+    → ((x y : ℕ) → Within d.range x → Within s.range y → compare 64 c x y ≡ way → ⊥) → refined c way d s ≡ None
 excluded_by_ranges c way d s n gd gs hd hs none =
     refined_is_told c way d s
     ∙ nothing_left (told (relation c way) d s) _
@@ -132,7 +132,7 @@ possible_by_bits Disjoint o d s gd gs = absurd o
 possible_by_bits Overlapping o d s gd gs = absurd o
 
 pub excluded_by_bits : (c : Comparison) (way : Bool) (d s : Number) → ¬ (c ≡ Set) → Well 64 d.bits → Well 64 s.bits
-    → ((x y : ℕ) → Mem 64 d.bits x → Mem 64 s.bits y → compare 64 c x y ≡ way → ⊥) → refined c way d s ≡ Excluded
+    → ((x y : ℕ) → Mem 64 d.bits x → Mem 64 s.bits y → compare 64 c x y ≡ way → ⊥) → refined c way d s ≡ None
 excluded_by_bits c way d s n gd gs none =
     refined_is_told c way d s
     ∙ nothing_left (told (relation c way) d s) _ (possible_by_bits (relation c way) (all_but_set_are_orderings c way n) d s gd gs)
@@ -157,7 +157,7 @@ possible_by_sharpened_bits false d s gd gs =
     (λ d' s'. Possibly Disjoint (Mem 64 (resharpened d).bits) (Mem 64 (resharpened s).bits)) (λ d' s' h. h.some) (disjoint_leaves d s gd gs)
 
 pub set_excluded_by_bits : (way : Bool) (d s : Number) → Well 64 d.bits → Well 64 s.bits
-    → ((x y : ℕ) → Mem 64 (resharpened d).bits x → Mem 64 (resharpened s).bits y → compare 64 Set x y ≡ way → ⊥) → refined Set way d s ≡ Excluded
+    → ((x y : ℕ) → Mem 64 (resharpened d).bits x → Mem 64 (resharpened s).bits y → compare 64 Set x y ≡ way → ⊥) → refined Set way d s ≡ None
 set_excluded_by_bits way d s gd gs none =
     refined_is_told Set way d s
     ∙ nothing_left (told (relation Set way) d s) _ (possible_by_sharpened_bits way d s gd gs)

@@ -8,6 +8,7 @@ use native.Mathlib.Decide.{dec_lt}
 use native.Mathlib.Omega.{arith}
 use lib.Dec.{lit<}
 use borrow.Author.Tests.{eq-eqb, le-ltb, le-leb}
+use Rattle.std.specs.Prelude.{Some, None}
 use Rattle.word.specs.Word.{bit, cut, alu, compare}
 use Rattle.word.specs.declared.Operation.TheVariants.{Add, Mov}
 use Rattle.word.specs.declared.Comparison.{Comparison}
@@ -22,8 +23,7 @@ use Rattle.known_bits.proofs.Class4.{cut_bit}
 use Rattle.known_bits.proofs.Laws.{number_wider}
 use Rattle.number.specs.declared.Range.{Range}
 use Rattle.number.specs.declared.Number.{Number}
-use Rattle.number.specs.declared.Refined.{Refined}
-use Rattle.number.specs.declared.Refined.TheVariants.{Excluded, Possible}
+use Rattle.number.specs.Refined.{Refined}
 use Rattle.number.specs.Meaning.{In, Narrower, Kept, Left}
 use Rattle.number.specs.Sharpen.{just, exact}
 use Rattle.number.specs.Compare.{settled, common, equal, firsts, taken, refined}
@@ -37,7 +37,7 @@ use Rattle.number.proofs.HalfBits.{halves_upper, halves_fit, halves_low_bit, hal
 use Rattle.number.proofs.HalfOrders.{key_by, key, key_fits, compare_by_keys, moved_back_lem}
 use Rattle.number.proofs.Known.{exact_in}
 use Rattle.number.proofs.Operands.{same_ends}
-use Rattle.number.proofs.Outcomes.{Some, Sharper, left_map, firsts_keep, firsts_leave, settled_keeps, settled_leaves}
+use Rattle.number.proofs.Outcomes.{NotEmpty, Sharper, left_map, firsts_keep, firsts_leave, settled_keeps, settled_leaves}
 use Rattle.number.proofs.HalfRanges.{halves_of_range_have, halves_of_range_within}
 
 -- ---- the low half, the half moved, and the one of them that is compared
@@ -129,8 +129,8 @@ low_half_keeps n u x i j =
 moved_back_keeps : (d s : Number) (r : Refined) (x y : ℕ) → In d x → In s y → Kept r (alu 32 Add x (2 ^ 31)) (alu 32 Add y (2 ^ 31))
     → Kept (moved_back d s r) (cut 32 x) (cut 32 y)
 unfolding moved_back
-moved_back_keeps d s Excluded x y hx hy k = k
-moved_back_keeps d s (Possible u v) x y hx hy k =
+moved_back_keeps d s None x y hx hy k = k
+moved_back_keeps d s (Some (u, v)) x y hx hy k =
     firsts_keep (equal (low_half d) (moved_half u)) (equal (low_half s) (moved_half v)) (cut 32 x) (cut 32 y)
     (low_half_keeps d u x hx k.0) (low_half_keeps s v y hy k.1)
 
@@ -145,14 +145,14 @@ low_halves_keep c d s r x y hx hy = keep (signed c)
 
 whole_keeps : (d s : Number) (r : Refined) (x y : ℕ) → In d x → In s y → Kept r (cut 32 x) (cut 32 y) → Kept (whole d s r) x y
 unfolding whole
-whole_keeps d s Excluded x y hx hy k = k
-whole_keeps d s (Possible l m) x y hx hy k =
+whole_keeps d s None x y hx hy k = k
+whole_keeps d s (Some (l, m)) x y hx hy k =
     settled_keeps (with_low d l) (with_low s m) x y (with_low_keeps d l x hx k.0) (with_low_keeps s m y hy k.1)
 
 -- what the comparison of the halves excludes is excluded
-pub excluded_stays : (c : Comparison) (d s : Number) → whole d s (low_halves c d s Excluded) ≡ Excluded
+pub excluded_stays : (c : Comparison) (d s : Number) → whole d s (low_halves c d s None) ≡ None
 unfolding whole low_halves moved_back
-excluded_stays c d s = by_test (λ (r : Refined). whole d s r ≡ Excluded) (signed c) (λ _. refl) (λ _. refl)
+excluded_stays c d s = by_test (λ (r : Refined). whole d s r ≡ None) (signed c) (λ _. refl) (λ _. refl)
 
 -- both ways are what the comparison of class 5 tells of the halves that are compared
 abbrev pub told : Comparison → Bool → Number → Number → Refined
@@ -174,8 +174,8 @@ refined32_sound c way d s x y hx hy e =
 -- ---- nothing is told of the upper half, whatever the two are
 whole_upper : (d s : Number) (r : Refined) → Left (whole d s r) (λ d' s'. UpperKept d' d × UpperKept s' s)
 unfolding whole
-whole_upper d s Excluded = tt
-whole_upper d s (Possible l m) =
+whole_upper d s None = tt
+whole_upper d s (Some (l, m)) =
     settled_leaves (with_low d l) (with_low s m) (λ d' s'. UpperKept d' d × UpperKept s' s) (λ a b. (with_low_upper d l, with_low_upper s m))
 
 pub refined32_upper : (c : Comparison) (way : Bool) (d s : Number) → Left (refined32 c way d s) (λ d' s'. UpperKept d' d × UpperKept s' s)
@@ -203,7 +203,7 @@ every_upper_half_is_left n' n x y u i j =
 pub record LowOf (n l : Number) : Type 0 where
   pub form : Well 64 l.bits
   pub narrower : Narrower l (low_half n)
-  pub some : Some l.range
+  pub some : NotEmpty l.range
 
 low_half_leaves : (n u : Number) → Well 64 n.bits → Well 64 u.bits → Left (equal (low_half n) u) (λ l l'. LowOf n l)
 low_half_leaves n u g h =
@@ -214,8 +214,8 @@ low_half_leaves n u g h =
 module _ (d s : Number) (gd : Well 64 d.bits) (gs : Well 64 s.bits) where
   moved_back_leaves : (r : Refined) → Left r (Sharper (moved_half d) (moved_half s)) → Left (moved_back d s r) (λ l m. LowOf d l × LowOf s m)
   unfolding moved_back
-  moved_back_leaves Excluded h = tt
-  moved_back_leaves (Possible u v) h =
+  moved_back_leaves None h = tt
+  moved_back_leaves (Some (u, v)) h =
       firsts_leave (equal (low_half d) (moved_half u)) (equal (low_half s) (moved_half v)) (LowOf d) (LowOf s)
       (low_half_leaves d (moved_half u) gd (moved_half_form u (h.form_first (moved_half_form d gd))))
       (low_half_leaves s (moved_half v) gs (moved_half_form v (h.form_second (moved_half_form s gs))))
@@ -237,8 +237,8 @@ module _ (d s : Number) (gd : Well 64 d.bits) (gs : Well 64 s.bits) where
 
   whole_sharper : (r : Refined) → Left r (λ l m. LowOf d l × LowOf s m) → Left (whole d s r) (Sharper d s)
   unfolding whole
-  whole_sharper Excluded h = tt
-  whole_sharper (Possible l m) h =
+  whole_sharper None h = tt
+  whole_sharper (Some (l, m)) h =
       settled_leaves (with_low d l) (with_low s m) (Sharper d s)
       (λ a b. record {
         first = with_low_narrower d l gd h.0.form h.0.narrower;
@@ -261,9 +261,9 @@ module _ (c : Comparison) (way : Bool) (d s : Number) (gd : Well 64 d.bits) (gs 
   refined32_narrower =
       left_map (refined32 c way d s) (Sharper d s) (λ d' s'. Narrower d' d × Narrower s' s) (λ d' s' h. (h.first, h.second)) refined32_sharper
 
-  pub refined32_not_empty : Left (refined32 c way d s) (λ d' s'. Some d'.range × Some s'.range)
+  pub refined32_not_empty : Left (refined32 c way d s) (λ d' s'. NotEmpty d'.range × NotEmpty s'.range)
   refined32_not_empty =
-      left_map (refined32 c way d s) (Sharper d s) (λ d' s'. Some d'.range × Some s'.range) (λ d' s' h. (h.some_first, h.some_second))
+      left_map (refined32 c way d s) (Sharper d s) (λ d' s'. NotEmpty d'.range × NotEmpty s'.range) (λ d' s' h. (h.some_first, h.some_second))
       refined32_sharper
 
   pub refined32_form : Left (refined32 c way d s) (λ d' s'. Well 64 d'.bits × Well 64 s'.bits)
@@ -288,12 +288,12 @@ compared_exact c x h = known (signed c)
     known true = moved_half_exact x h
     known false = low_half_exact x h
 
-equal_exact : (x : ℕ) → x < 2 ^ 64 → equal (exact x) (exact x) ≡ Possible (exact x) (exact x)
+equal_exact : (x : ℕ) → x < 2 ^ 64 → equal (exact x) (exact x) ≡ Some (exact x, exact x)
 unfolding refined taken compare
 equal_exact x h = refined_exact Eq true x x h h (eq-eqb (cut 64 x) (cut 64 x) refl)
 
 -- the low half, from what was moved
-back_exact : (x : ℕ) → x < 2 ^ 64 → equal (low_half (exact x)) (moved_half (exact (alu 32 Add x (2 ^ 31)))) ≡ Possible (exact (cut 32 x)) (exact (cut 32 x))
+back_exact : (x : ℕ) → x < 2 ^ 64 → equal (low_half (exact x)) (moved_half (exact (alu 32 Add x (2 ^ 31)))) ≡ Some (exact (cut 32 x), exact (cut 32 x))
 back_exact x h =
     ap₂ equal (low_half_exact x h)
     (moved_half_exact (alu 32 Add x (2 ^ 31)) (number_wider 32 64 (omega arith) (result_below 32 Add x (2 ^ 31))) ∙ ap exact (moved_back_lem x))
@@ -309,7 +309,7 @@ with_low_exact : (x : ℕ) → with_low (exact x) (exact (cut 32 x)) ≡ exact x
 unfolding with_low halves_of_bits exact halves
 with_low_exact x = λ i. record { bits = record { value = halves_of_itself x i; mask = 0 }; range = range_exact x i }
 
-settled_exact : (x y : ℕ) → settled (exact x) (exact y) ≡ Possible (exact x) (exact y)
+settled_exact : (x y : ℕ) → settled (exact x) (exact y) ≡ Some (exact x, exact y)
 unfolding settled exact just
 settled_exact x y = rw (le-leb x x (omega arith), le-leb y y (omega arith)) refl
 
@@ -321,30 +321,30 @@ module _ (c : Comparison) (way : Bool) (x y : ℕ) (hx : x < 2 ^ 64) (hy : y < 2
       ∙ ap (λ r. whole (exact x) (exact y) (low_halves c (exact x) (exact y) r))
       (ap₂ (refined (unsigned c) way) (compared_exact c x hx) (compared_exact c y hy))
 
-  low_halves_exact : low_halves c (exact x) (exact y) (Possible (exact (key c x)) (exact (key c y))) ≡ Possible (exact (cut 32 x)) (exact (cut 32 y))
+  low_halves_exact : low_halves c (exact x) (exact y) (Some (exact (key c x), exact (key c y))) ≡ Some (exact (cut 32 x), exact (cut 32 y))
   unfolding low_halves moved_back key firsts
   low_halves_exact = known (signed c)
     where
       r : Bool → Refined
-      r b = Possible (exact (key_by b x)) (exact (key_by b y))
+      r b = Some (exact (key_by b x), exact (key_by b y))
 
-      known : (b : Bool) → cond b (moved_back (exact x) (exact y) (r b)) (r b) ≡ Possible (exact (cut 32 x)) (exact (cut 32 y))
+      known : (b : Bool) → cond b (moved_back (exact x) (exact y) (r b)) (r b) ≡ Some (exact (cut 32 x), exact (cut 32 y))
       known true = ap₂ firsts (back_exact x hx) (back_exact y hy)
       known false = refl
 
-  whole_exact : whole (exact x) (exact y) (low_halves c (exact x) (exact y) (Possible (exact (key c x)) (exact (key c y)))) ≡ Possible (exact x) (exact y)
+  whole_exact : whole (exact x) (exact y) (low_halves c (exact x) (exact y) (Some (exact (key c x), exact (key c y)))) ≡ Some (exact x, exact y)
   unfolding whole
   whole_exact =
       ap (whole (exact x) (exact y)) low_halves_exact ∙ ap₂ settled (with_low_exact x) (with_low_exact y) ∙ settled_exact x y
 
-  pub refined32_exact : compare 32 c x y ≡ way → refined32 c way (exact x) (exact y) ≡ Possible (exact x) (exact y)
+  pub refined32_exact : compare 32 c x y ≡ way → refined32 c way (exact x) (exact y) ≡ Some (exact x, exact y)
   refined32_exact e =
       refined32_of_exact
       ∙ ap (λ r. whole (exact x) (exact y) (low_halves c (exact x) (exact y) r))
       (refined_exact (unsigned c) way (key c x) (key c y) (key_fits c x) (key_fits c y) (sym (compare_by_keys c x y) ∙ e))
       ∙ whole_exact
 
-  pub refined32_exact_excluded : compare 32 c x y ≡ not way → refined32 c way (exact x) (exact y) ≡ Excluded
+  pub refined32_exact_excluded : compare 32 c x y ≡ not way → refined32 c way (exact x) (exact y) ≡ None
   refined32_exact_excluded e =
       refined32_of_exact
       ∙ ap (λ r. whole (exact x) (exact y) (low_halves c (exact x) (exact y) r))

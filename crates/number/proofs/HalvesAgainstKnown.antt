@@ -7,14 +7,14 @@ use Prim.Native.Nat.{ℕ, ◌^◌, ◌<◌}
 use native.Mathlib.Nat.{le_trans}
 use native.Mathlib.Omega.{arith}
 use borrow.Author.Tests.{lt-ltb}
+use Rattle.std.specs.Prelude.{Some, None}
 use Rattle.word.specs.Word.{compare}
 use Rattle.word.specs.declared.Operation.TheVariants.{Mov}
 use Rattle.word.specs.declared.Comparison.{Comparison}
 use Rattle.word.proofs.Cut.{cut_small}
 use Rattle.number.specs.declared.Range.{Range}
 use Rattle.number.specs.declared.Number.{Number}
-use Rattle.number.specs.declared.Refined.{Refined}
-use Rattle.number.specs.declared.Refined.TheVariants.{Excluded, Possible}
+use Rattle.number.specs.Refined.{Refined}
 use Rattle.number.specs.Meaning.{RangeWithin, Tightest, Left, Going}
 use Rattle.number.specs.Demanded.{Going32}
 use Rattle.number.specs.Sharpen.{exact}
@@ -105,7 +105,7 @@ module _ (c : Comparison) (way : Bool) (plain : Unsigned c) (d : Number) (k : �
       refined32_is c way d s
       ∙ ap (λ (n : Number). whole d s (low_halves c d s (refined (unsigned c) way (compared c d) n))) (compared_exact c k word)
 
-  pub excluded32_if_none_goes : ((x : ℕ) → S x → ⊥) → refined32 c way d s ≡ Excluded
+  pub excluded32_if_none_goes : ((x : ℕ) → S x → ⊥) → refined32 c way d s ≡ None
   excluded32_if_none_goes none =
       refined32_by_key
       ∙ ap (λ (q : Refined). whole d s (low_halves c d s q))
@@ -132,8 +132,8 @@ module _ (c : Comparison) (way : Bool) (plain : Unsigned c) (d : Number) (k : �
 
   whole_tight : (q : Refined) → Left q (λ l m. Tight l) → Left (whole d s q) (λ d' s'. Tight d')
   unfolding whole
-  whole_tight Excluded h = tt
-  whole_tight (Possible l m) h = settled_leaves (with_low d l) (with_low s m) (λ d' s'. Tight d') (λ a b. with_low_tight l h)
+  whole_tight None h = tt
+  whole_tight (Some (l, m)) h = settled_leaves (with_low d l) (with_low s m) (λ d' s'. Tight d') (λ a b. with_low_tight l h)
 
   pub refined32_tightest : Left (refined32 c way d (exact k)) (λ d' s'. Tightest (Going32 c way d.range k) d'.range)
   refined32_tightest = rw (refined32_by_key) (whole_tight (low_halves c d s r) (low_halves_tight r compared_tight))

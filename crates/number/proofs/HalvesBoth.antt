@@ -4,6 +4,7 @@ use mathlib.Core.Bool.{Bool}
 use mathlib.Core.Logic.{◌⊎◌}
 use Prim.Native.Nat.{◌^◌, ◌<◌}
 use native.Mathlib.Omega.{arith}
+use Rattle.std.specs.Prelude.{Some, None}
 use Rattle.word.specs.Word.{cut}
 use Rattle.word.specs.declared.Comparison.{Comparison}
 use Rattle.word.specs.declared.Comparison.TheVariants.{Set}
@@ -11,8 +12,7 @@ use Rattle.known_bits.specs.KnownBits.{Well}
 use Rattle.known_bits.proofs.Tight.{mem_least}
 use Rattle.number.specs.declared.Range.{Range}
 use Rattle.number.specs.declared.Number.{Number}
-use Rattle.number.specs.declared.Refined.{Refined}
-use Rattle.number.specs.declared.Refined.TheVariants.{Excluded, Possible}
+use Rattle.number.specs.Refined.{Refined}
 use Rattle.number.specs.Meaning.{RangeWithin, Narrower, Left}
 use Rattle.number.specs.Compare.{common, equal, firsts, refined}
 use Rattle.number.specs.Halves.{unsigned, signed, low_half, moved_half, compared, moved_back, low_halves, halves_of_range, with_low, whole, refined32}
@@ -34,9 +34,9 @@ with_low_range n l h =
 
 whole_ranges : (d s : Number) (r : Refined) → Left (whole d s r) (RangesBoundedBy d s r)
 unfolding whole
-whole_ranges d s Excluded = tt
-whole_ranges d s (Possible l m) =
-    settled_leaves (with_low d l) (with_low s m) (RangesBoundedBy d s (Possible l m)) (λ a b. (with_low_range d l, with_low_range s m))
+whole_ranges d s None = tt
+whole_ranges d s (Some (l, m)) =
+    settled_leaves (with_low d l) (with_low s m) (RangesBoundedBy d s (Some (l, m))) (λ a b. (with_low_range d l, with_low_range s m))
 
 pub refined32_low_ranges : (c : Comparison) (way : Bool) → Unsigned c ⊎ (c ≡ Set) → (d s : Number) → Well 64 d.bits → Well 64 s.bits
     → Left (refined32 c way d s) (RangesBoundedBy d s (refined c way (low_half d) (low_half s)))
@@ -70,19 +70,19 @@ whole_back n u l b = (
 )
 
 module _ (d s : Number) (gd : Well 64 d.bits) (gs : Well 64 s.bits) where
-  settled_back : (u v : Number) (t : Refined) → Left t (λ l m. Back u l × Back v m) → Left (whole d s t) (HalvesRaisedBy d s (Possible u v))
+  settled_back : (u v : Number) (t : Refined) → Left t (λ l m. Back u l × Back v m) → Left (whole d s t) (HalvesRaisedBy d s (Some (u, v)))
   unfolding whole
-  settled_back u v Excluded h = tt
-  settled_back u v (Possible l m) h =
+  settled_back u v None h = tt
+  settled_back u v (Some (l, m)) h =
       let p = whole_back d u l h.0 in
       let q = whole_back s v m h.1 in
-      settled_leaves (with_low d l) (with_low s m) (HalvesRaisedBy d s (Possible u v)) (λ a b. (p.0, q.0, p.1, q.1))
+      settled_leaves (with_low d l) (with_low s m) (HalvesRaisedBy d s (Some (u, v))) (λ a b. (p.0, q.0, p.1, q.1))
 
   whole_moved : (r : Refined) → Left r (λ u v. Well 64 u.bits × Well 64 v.bits)
       → Left (whole d s (moved_back d s r)) (HalvesRaisedBy d s r)
   unfolding moved_back whole
-  whole_moved Excluded h = tt
-  whole_moved (Possible u v) h =
+  whole_moved None h = tt
+  whole_moved (Some (u, v)) h =
       settled_back u v (firsts (equal (low_half d) (moved_half u)) (equal (low_half s) (moved_half v)))
       (firsts_leave (equal (low_half d) (moved_half u)) (equal (low_half s) (moved_half v)) (Back u) (Back v)
       (back d u gd h.0) (back s v gs h.1))

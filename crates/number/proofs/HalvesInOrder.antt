@@ -6,6 +6,7 @@ use Prim.Native.Nat.{ℕ, ◌^◌, ◌<◌}
 use native.Mathlib.Decide.{dec_lt}
 use native.Mathlib.Omega.{arith}
 use lib.Dec.{lit<}
+use Rattle.std.specs.Prelude.{Some, None}
 use Rattle.word.specs.Word.{bit}
 use Rattle.word.specs.declared.Operation.TheVariants.{Add, Mov}
 use Rattle.word.specs.declared.Comparison.{Comparison}
@@ -19,8 +20,7 @@ use Rattle.known_bits.proofs.Laws.{mem_bounds}
 use Rattle.known_bits.proofs.Tight.{mem_top}
 use Rattle.number.specs.declared.Range.{Range}
 use Rattle.number.specs.declared.Number.{Number}
-use Rattle.number.specs.declared.Refined.{Refined}
-use Rattle.number.specs.declared.Refined.TheVariants.{Excluded, Possible}
+use Rattle.number.specs.Refined.{Refined}
 use Rattle.number.specs.Meaning.{RangeWithin, BitsWithin, Narrower, Left, LeavesNoMore}
 use Rattle.number.specs.Sharpen.{exact, loaded}
 use Rattle.number.specs.Compare.{bounds, common, equal}
@@ -34,7 +34,7 @@ use Rattle.number.proofs.HalfBits.{halves_low_bit, halves_high_bit}
 use Rattle.number.proofs.Halves.{LowOf, low_half_form, moved_half_form, compared_form, low_halves_leave, told, refined32_is, refined32_sharper}
 use Rattle.number.proofs.Known.{exact_in, loaded_in}
 use Rattle.number.proofs.Operands.{base}
-use Rattle.number.proofs.Outcomes.{Some, some_of_within, Sharper, left_map, left_both, settled_leaves}
+use Rattle.number.proofs.Outcomes.{NotEmpty, some_of_within, Sharper, left_map, left_both, settled_leaves}
 use Rattle.number.proofs.SharedBits.{narrower_than_itself}
 use Rattle.number.proofs.Shorter.{mov_computed_range}
 use Rattle.number.proofs.WaysInOrder.{if_left, settled_in_order, firsts_in_order, common_in_order, equal_in_order, SomeBounds, refined_leaves_bounds, refined_in_order}
@@ -73,9 +73,9 @@ module _ (d' s' d s : Number) (gd' : Well 64 d'.bits) (gs' : Well 64 s'.bits) (g
       → Left r (λ l m. Well 64 l.bits × Well 64 m.bits) → LeavesNoMore r' r
       → LeavesNoMore (whole d' s' r') (whole d s r)
   unfolding whole with_low
-  whole_in_order Excluded r f' f h = tt
-  whole_in_order (Possible l' m') Excluded f' f h = absurd h
-  whole_in_order (Possible l' m') (Possible l m) f' f h =
+  whole_in_order None r f' f h = tt
+  whole_in_order (Some (l', m')) None f' f h = absurd h
+  whole_in_order (Some (l', m')) (Some (l, m)) f' f h =
       settled_in_order _ _ _ _ (λ _ _. (
         record {
           bits = halves_of_bits_in_order d'.bits l'.bits d.bits l.bits gd' f'.0 gd f.0 hd.bits h.0.bits;
@@ -91,8 +91,8 @@ module _ (d' s' d s : Number) (gd' : Well 64 d'.bits) (gs' : Well 64 s'.bits) (g
 -- a Number of which a low half is left
 record Halved (n : Number) : Type 0 where
   form : Well 64 n.bits
-  some : Some n.range
-  some_low : Some (low_half n).range
+  some : NotEmpty n.range
+  some_low : NotEmpty (low_half n).range
 
 halved_operand : (n : Number) → Halved n → Operand (2 ^ 32) n
 unfolding low_half
@@ -109,18 +109,18 @@ module _ (n' n : Number) (g : Well 64 n.bits) (h : Narrower n' n) where
   low_half_in_order k =
       let o = halved_operand n' k in computed_in_order 32 (inr refl) Mov n' n' n n g g h h o o k.some_low
 
-  moved_half_in_order : Operand (2 ^ 32) n' → Some (moved_half n').range → Narrower (moved_half n') (moved_half n)
+  moved_half_in_order : Operand (2 ^ 32) n' → NotEmpty (moved_half n').range → Narrower (moved_half n') (moved_half n)
   unfolding moved_half base
   moved_half_in_order o =
       let e = exact_in (2 ^ 31) (lit< tt) in
       computed_in_order 32 (inr refl) Add n' (exact (2 ^ 31)) n (exact (2 ^ 31)) g e.form h (narrower_than_itself (exact (2 ^ 31))) o
       (operand_of_member 32 (omega arith) (exact (2 ^ 31)) (2 ^ 31) e)
 
-  compared_in_order : (c : Comparison) → Halved n' → Some (compared c n').range → Narrower (compared c n') (compared c n)
+  compared_in_order : (c : Comparison) → Halved n' → NotEmpty (compared c n').range → Narrower (compared c n') (compared c n)
   unfolding compared
   compared_in_order c k = go (signed c)
     where
-      go : (b : Bool) → Some (cond b (moved_half n') (low_half n')).range
+      go : (b : Bool) → NotEmpty (cond b (moved_half n') (low_half n')).range
           → Narrower (cond b (moved_half n') (low_half n')) (cond b (moved_half n) (low_half n))
       go true s = moved_half_in_order (halved_operand n' k) s
       go false s = low_half_in_order k
@@ -135,7 +135,7 @@ moved_half_fits n g =
 
 -- what is left of it can be moved back
 module _ (n u : Number) (g : Well 64 n.bits) (gu : Well 64 u.bits) (h : Narrower u (moved_half n)) where
-  moved_operand : Some (bounds u) → Operand (2 ^ 32) u
+  moved_operand : NotEmpty (bounds u) → Operand (2 ^ 32) u
   unfolding bounds loaded among
   moved_operand s =
       operand_of_bounds 32 u gu
@@ -152,8 +152,8 @@ module _ (d' d : Number) (gd : Well 64 d.bits) (hd : Narrower d' d) (k : Halved 
   back_in_order u' u o gu h =
       let f = low_half_form d' k.form in
       let f' = moved_half_form u' o.form in
-      if_left (equal (low_half d') (moved_half u')) (equal (low_half d) (moved_half u)) (Some (moved_half u').range)
-      (left_map (equal (low_half d') (moved_half u')) _ (λ a b. Some (moved_half u').range)
+      if_left (equal (low_half d') (moved_half u')) (equal (low_half d) (moved_half u)) (NotEmpty (moved_half u').range)
+      (left_map (equal (low_half d') (moved_half u')) _ (λ a b. NotEmpty (moved_half u').range)
       (λ a b j. some_of_within j.second.range j.some_second)
       (equal_leaves (low_half d') (moved_half u') f f'))
       (λ s. equal_in_order (low_half d') (moved_half u') (low_half d) (moved_half u) f f' (low_half_form d gd) (moved_half_form u gu)
@@ -165,17 +165,17 @@ Forms u v = Well 64 u.bits × Well 64 v.bits
 
 whole_leaves : (d s : Number) (r : Refined) (A : Type 0) → Left r (λ l m. A) → Left (whole d s r) (λ l m. A)
 unfolding whole
-whole_leaves d s Excluded A h = tt
-whole_leaves d s (Possible l m) A h = settled_leaves (with_low d l) (with_low s m) (λ l m. A) (λ a b. h)
+whole_leaves d s None A h = tt
+whole_leaves d s (Some (l, m)) A h = settled_leaves (with_low d l) (with_low s m) (λ l m. A) (λ a b. h)
 
 module _ (d' s' d s : Number) (gd : Well 64 d.bits) (gs : Well 64 s.bits) (hd : Narrower d' d) (hs : Narrower s' s) (kd : Halved d')
     (ks : Halved s') where
   moved_back_in_order : (r' r : Refined) → Left r' (λ u v. Operand (2 ^ 32) u × Operand (2 ^ 32) v) → Left r Forms → LeavesNoMore r' r
       → LeavesNoMore (moved_back d' s' r') (moved_back d s r)
   unfolding moved_back
-  moved_back_in_order Excluded r f' f h = tt
-  moved_back_in_order (Possible u' v') Excluded f' f h = absurd h
-  moved_back_in_order (Possible u' v') (Possible u v) f' f h =
+  moved_back_in_order None r f' f h = tt
+  moved_back_in_order (Some (u', v')) None f' f h = absurd h
+  moved_back_in_order (Some (u', v')) (Some (u, v)) f' f h =
       firsts_in_order (equal (low_half d') (moved_half u')) (equal (low_half s') (moved_half v')) (equal (low_half d) (moved_half u))
       (equal (low_half s) (moved_half v))
       (back_in_order d' d gd hd kd u' u f'.0 f.0 h.0) (back_in_order s' s gs hs ks v' v f'.1 f.1 h.1)
@@ -204,7 +204,7 @@ module _ (d' s' d s : Number) (gd : Well 64 d.bits) (gs : Well 64 s.bits) (hd : 
   told_in_order c way =
       let fd = compared_form c d' kd.form in
       let fs = compared_form c s' ks.form in
-      let A : Type 0 = Some (compared c d').range × Some (compared c s').range in
+      let A : Type 0 = NotEmpty (compared c d').range × NotEmpty (compared c s').range in
       if_left (told c way d' s') (told c way d s) A
       (left_map (told c way d' s') _ (λ u v. A) (λ u v j. (
         some_of_within j.first.range j.some_first,
@@ -238,7 +238,7 @@ module _ (c : Comparison) (way : Bool) (d s : Number) (gd : Well 64 d.bits) (gs 
   halves_forms = left_map (low_halves c d s (told c way d s)) _ Forms (λ l m h. (h.0.form, h.1.form)) halves_left
 
   abbrev SomeLow : Type 0
-  SomeLow = Some (low_half d).range × Some (low_half s).range
+  SomeLow = NotEmpty (low_half d).range × NotEmpty (low_half s).range
 
   halved_if_left : Left (refined32 c way d s) (λ d' s'. Halved d × Halved s)
   halved_if_left =

@@ -8,6 +8,7 @@ use native.Mathlib.Decide.{dec_lt}
 use native.Mathlib.Omega.{arith}
 use lib.Bits.{bit_and, and_lt}
 use lib.Pow.{pow_pos}
+use Rattle.std.specs.Prelude.{Some, None}
 use Rattle.word.specs.Word.{bit, cut, alu, compare}
 use Rattle.word.specs.declared.Operation.TheVariants.{Add, Mov}
 use Rattle.word.specs.declared.Comparison.{Comparison}
@@ -22,8 +23,7 @@ use Rattle.known_bits.proofs.Tight.{mem_least}
 use Rattle.known_bits.proofs.Class4.{cut_bit, low_well}
 use Rattle.known_bits.proofs.Laws.{high_bit, well_wider, mem_narrower}
 use Rattle.number.specs.declared.Number.{Number}
-use Rattle.number.specs.declared.Refined.{Refined}
-use Rattle.number.specs.declared.Refined.TheVariants.{Excluded, Possible}
+use Rattle.number.specs.Refined.{Refined}
 use Rattle.number.specs.Meaning.{Left}
 use Rattle.number.specs.Demanded.{Unsigned, eq, ne, gt, ge, lt, le, LowBitsWithin, BoundedBy}
 use Rattle.number.specs.Sharpen.{exact}
@@ -193,7 +193,7 @@ unsigned_not_set Slt n e = let z : ◌≡◌ {A = ℕ} 0 1 = cc in absurd (omega
 unsigned_not_set Sle n e = let z : ◌≡◌ {A = ℕ} 0 1 = cc in absurd (omega arith)
 
 pub excluded32_by_bits : (c : Comparison) (way : Bool) → ¬ (c ≡ Set) → (d s : Number) → Well 64 d.bits → Well 64 s.bits
-    → ((x y : ℕ) → Mem 64 d.bits x → Mem 64 s.bits y → compare 32 c x y ≡ way → ⊥) → refined32 c way d s ≡ Excluded
+    → ((x y : ℕ) → Mem 64 d.bits x → Mem 64 s.bits y → compare 32 c x y ≡ way → ⊥) → refined32 c way d s ≡ None
 excluded32_by_bits c way other d s gd gs none =
     refined32_is c way d s
     ∙ ap (λ (q : Refined). whole d s (low_halves c d s q))
@@ -247,9 +247,9 @@ module _ (c : Comparison) (way : Bool) (u : Unsigned c ⊎ (c ≡ Set)) (d s : N
 
   whole_bounded : (r : Refined) → Left r (λ l m. (l.bits.value < 2 ^ 32) × (m.bits.value < 2 ^ 32)) → Left (whole d s r) (BoundedBy r)
   unfolding whole
-  whole_bounded Excluded h = tt
-  whole_bounded (Possible l m) h =
-      settled_leaves (with_low d l) (with_low s m) (BoundedBy (Possible l m)) (λ a b. (with_low_bits d l h.0, with_low_bits s m h.1))
+  whole_bounded None h = tt
+  whole_bounded (Some (l, m)) h =
+      settled_leaves (with_low d l) (with_low s m) (BoundedBy (Some (l, m))) (λ a b. (with_low_bits d l h.0, with_low_bits s m h.1))
 
   pub refined32_low_bits : Left (refined32 c way d s) (BoundedBy (refined c way (low_half d) (low_half s)))
   refined32_low_bits = rw (bare_refined32) (whole_bounded (refined c way (low_half d) (low_half s)) low_values)
@@ -257,8 +257,8 @@ module _ (c : Comparison) (way : Bool) (u : Unsigned c ⊎ (c ≡ Set)) (d s : N
 -- ---- JSET of low halves, not taken
 bounded_clears : (r : Refined) (k : ℕ) → Left r (λ l m. (x : ℕ) → Mem 64 l.bits x → bit_and x k ≡ 0)
     → (d s : Number) → BoundedBy r d s → (x : ℕ) → Mem 64 d.bits x → bit_and (cut 32 x) k ≡ 0
-bounded_clears Excluded k h d s b x i = absurd b
-bounded_clears (Possible l m) k h d s b x i = h (cut 32 x) (b.0 x i)
+bounded_clears None k h d s b x i = absurd b
+bounded_clears (Some (l, m)) k h d s b x i = h (cut 32 x) (b.0 x i)
 
 pub set32_not_taken_clears : (d : Number) (k : ℕ) → Well 64 d.bits → k < 2 ^ 64
     → Left (refined32 Set false d (exact k)) (λ d' s'. (x : ℕ) → Mem 64 d'.bits x → bit_and (cut 32 x) (cut 32 k) ≡ 0)

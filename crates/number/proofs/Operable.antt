@@ -10,6 +10,7 @@ use native.Mathlib.Omega.{arith}
 use lib.Bits.{bit_or, or_mod, or_shr}
 use borrow.Author.Tests.{eq-eqb, ne_eqb}
 use lib.Pow.{pow_pos, pow-add, shr_mono, shr-shr}
+use Rattle.std.specs.Prelude.{Some, None}
 use Rattle.word.specs.declared.Comparison.{Comparison}
 use Rattle.word.specs.declared.Operation.{Operation}
 use Rattle.word.specs.declared.Operation.TheVariants.{Add, Sub, Mul, Div, Or, And, Lsh, Rsh, Neg, Mod, Xor, Mov, Arsh}
@@ -22,8 +23,7 @@ use Rattle.known_bits.proofs.Laws.{mem_bounds}
 use Rattle.known_bits.proofs.Tight.{mem_least}
 use Rattle.number.specs.declared.Range.{Range}
 use Rattle.number.specs.declared.Number.{Number}
-use Rattle.number.specs.declared.Refined.{Refined}
-use Rattle.number.specs.declared.Refined.TheVariants.{Excluded, Possible}
+use Rattle.number.specs.Refined.{Refined}
 use Rattle.number.specs.Meaning.{In, RangeWithin, Narrower, Left, NoneEmpty}
 use Rattle.number.specs.Sharpen.{narrowed, learnt, sharpened, joined_range, joined_number}
 use Rattle.number.specs.Computed.{block, modulo, computed}
@@ -39,7 +39,7 @@ use Rattle.number.proofs.Halves.{LowOf, with_low_form, told, refined32_is}
 use Rattle.number.proofs.HalvesInOrder.{halves_left}
 use Rattle.number.proofs.Known.{joined_form, joined_wider_left, joined_wider_right}
 use Rattle.number.proofs.Operands.{block_keeps, Wide, at_either_width, base, rest_in_order, second_is_modulo}
-use Rattle.number.proofs.Outcomes.{Some, some_of_within, left_map, left_both, settled_leaves}
+use Rattle.number.proofs.Outcomes.{NotEmpty, some_of_within, left_map, left_both, settled_leaves}
 use Rattle.number.proofs.RangesInOrder.{block_shrinks}
 use Rattle.number.proofs.SharpenedInOrder.{narrowed_in_order, same_lead_as_ends, no_difference_from, learnt_mask_below}
 use Rattle.number.proofs.Sharpening.{narrowed_above_least, narrowed_below_top}
@@ -49,9 +49,9 @@ use Rattle.number.proofs.WaysInOrder.{sharpened_bounds, refined_leaves_sharpened
 -- the upper half of the range lies between those of the pair's ends, so that a low half that is sharpened cannot contradict it
 pub record Operable (n : Number) : Type 0 where
   pub form : Well 64 n.bits
-  pub some : Some n.range
-  pub low : (j : ℕ) → j ≤ 32 → Some (modulo (2 ^ j) n)
-  pub whole : Some (bounds n)
+  pub some : NotEmpty n.range
+  pub low : (j : ℕ) → j ≤ 32 → NotEmpty (modulo (2 ^ j) n)
+  pub whole : NotEmpty (bounds n)
   pub upper_least : n.bits.value / 2 ^ 32 ≤ n.range.lo / 2 ^ 32
   pub upper_most : n.range.hi / 2 ^ 32 ≤ top n.bits / 2 ^ 32
 
@@ -63,7 +63,7 @@ taken_is_some : (j : ℕ) (n : Number)
     → (n.range.lo / 2 ^ j ≡ n.range.hi / 2 ^ j
     → (n.range.lo % 2 ^ j ≤ n.range.hi % 2 ^ j) × (n.bits.value % 2 ^ j ≤ n.range.hi % 2 ^ j)
     × (n.range.lo % 2 ^ j ≤ top n.bits % 2 ^ j))
-    → Some (modulo (2 ^ j) n)
+    → NotEmpty (modulo (2 ^ j) n)
 unfolding modulo block
 taken_is_some j n f =
     let v = low_of_ends n.bits j in
@@ -73,7 +73,7 @@ taken_is_some j n f =
     (λ _. omega (arith, mod-lt n.bits.value (pow_pos j), mod-lt (top n.bits) (pow_pos j)))
 
 -- ---- what is sharpened
-module _ (p : Bits) (u : Range) (s : Some (narrowed (learnt p u) u)) where
+module _ (p : Bits) (u : Range) (s : NotEmpty (narrowed (learnt p u) u)) where
   abbrev q : Bits
   q = learnt p u
 
@@ -122,7 +122,7 @@ module _ (p : Bits) (u : Range) (s : Some (narrowed (learnt p u) u)) where
         go (no n) (no a) (yes b) = subst (λ (x : ℕ). x % 2 ^ j ≤ top q % 2 ^ j) b (low_of_ends q j)
         go (no n) (no a) (no b) = absurd (n (lead (from_u_low b) (from_u_high a)).1)
 
-pub sharpened_operable : (p : Bits) (s : Range) → Some (sharpened p s).range → Well 64 (sharpened p s).bits → Operable (sharpened p s)
+pub sharpened_operable : (p : Bits) (s : Range) → NotEmpty (sharpened p s).range → Well 64 (sharpened p s).bits → Operable (sharpened p s)
 unfolding sharpened
 sharpened_operable p s h g =
     let u = narrowed p s in
@@ -140,12 +140,12 @@ module _ (a b : Number) (h : Operable a) (k : Operable b) where
   abbrev j : Number
   j = joined_number a b
 
-  joined_low : (i : ℕ) → i ≤ 32 → Some (modulo (2 ^ i) j)
+  joined_low : (i : ℕ) → i ≤ 32 → NotEmpty (modulo (2 ^ i) j)
   joined_low i l =
       some_of_within (modulo_shrinks i (omega arith) a j h.form (joined_form a b) (joined_wider_left a b h.form) h.some
       (h.low i l)).within (h.low i l)
 
-  joined_whole : Some (bounds j)
+  joined_whole : NotEmpty (bounds j)
   unfolding bounds
   joined_whole =
       let w = joined_wider_left a b h.form in
@@ -192,17 +192,17 @@ member_operable n x i l h =
 
 -- ---- so nothing that is taken of it is empty
 module _ (n : Number) (h : Operable n) where
-  taken_64 : Some (modulo (2 ^ 64) n)
+  taken_64 : NotEmpty (modulo (2 ^ 64) n)
   unfolding bounds
   taken_64 = (word_operand n h.form h.whole).taken
 
-  taken_whole : (w : ℕ) → Wide w → Some (modulo (2 ^ w) n)
-  taken_whole = at_either_width (λ w. Some (modulo (2 ^ w) n)) taken_64 (h.low 32 (omega arith))
+  taken_whole : (w : ℕ) → Wide w → NotEmpty (modulo (2 ^ w) n)
+  taken_whole = at_either_width (λ w. NotEmpty (modulo (2 ^ w) n)) taken_64 (h.low 32 (omega arith))
 
-  taken_count : (w : ℕ) → Wide w → Some (modulo w n)
-  taken_count = at_either_width (λ w. Some (modulo w n)) (h.low 6 (omega arith)) (h.low 5 (omega arith))
+  taken_count : (w : ℕ) → Wide w → NotEmpty (modulo w n)
+  taken_count = at_either_width (λ w. NotEmpty (modulo w n)) (h.low 6 (omega arith)) (h.low 5 (omega arith))
 
-  taken_second : (w : ℕ) → Wide w → (op : Operation) → Some (modulo (base w op) n)
+  taken_second : (w : ℕ) → Wide w → (op : Operation) → NotEmpty (modulo (base w op) n)
   unfolding base
   taken_second w ww Add = taken_whole w ww
   taken_second w ww Sub = taken_whole w ww
@@ -219,17 +219,17 @@ module _ (n : Number) (h : Operable n) where
   taken_second w ww Arsh = taken_count w ww
 
 pub none_empty_but_the_result : (w : ℕ) → Wide w → (op : Operation) (a b : Number) → Operable a → Operable b
-    → Some (computed w op a b).range → NoneEmpty w op a b
+    → NotEmpty (computed w op a b).range → NoneEmpty w op a b
 none_empty_but_the_result w ww op a b h k r =
     record {
       first = h.some;
       first_taken = taken_whole a h w ww;
       other = k.some;
-      other_taken = subst Some (sym (second_is_modulo w op b)) (taken_second b k w ww op);
+      other_taken = subst NotEmpty (sym (second_is_modulo w op b)) (taken_second b k w ww op);
       result = r;
     }
 
-pub computed_operable : (w : ℕ) → Wide w → (op : Operation) (a b : Number) → Operable a → Operable b → Some (computed w op a b).range
+pub computed_operable : (w : ℕ) → Wide w → (op : Operation) (a b : Number) → Operable a → Operable b → NotEmpty (computed w op a b).range
     → Operable (computed w op a b)
 unfolding computed
 computed_operable w ww op a b h k r = sharpened_operable _ _ r (computed_form w ww op a b h.form k.form)
@@ -267,7 +267,7 @@ block_moved m c r p = go (ℕ_discrete (r.lo / m) (r.hi / m))
     go (no n) = rw (ne_eqb ((c * m + r.lo) / m) ((c * m + r.hi) / m) (λ e. n (omega (arith, ql, qh)))) (block_within_all m r p)
 
 -- l is a low half of what lies in d
-module _ (d l : Range) (sd : Some d) (sl : Some l) (h : RangeWithin l (block (2 ^ 32) d)) where
+module _ (d l : Range) (sd : NotEmpty d) (sl : NotEmpty l) (h : RangeWithin l (block (2 ^ 32) d)) where
   -- of numbers with one upper half
   lies_in : d.lo / 2 ^ 32 ≡ d.hi / 2 ^ 32 → (d.lo % 2 ^ 32 ≤ l.lo) × (l.hi ≤ d.hi % 2 ^ 32)
   lies_in e =
@@ -366,7 +366,7 @@ module _ (d l : Number) (od : Operable d) (ol : Operable l) (h : Narrower l (low
       ∙ ap₂ bit_or (halves_upper d.bits.value l.bits.value) (halves_upper d.bits.mask l.bits.mask)
       ∙ sym (or_shr d.bits.value d.bits.mask 32)
 
-  with_low_taken : (j : ℕ) → j ≤ 32 → Some (modulo (2 ^ j) n)
+  with_low_taken : (j : ℕ) → j ≤ 32 → NotEmpty (modulo (2 ^ j) n)
   unfolding modulo with_low halves_of_bits
   with_low_taken j small =
       let b = with_low_block j small in
@@ -425,7 +425,7 @@ module _ (d l : Number) (od : Operable d) (ol : Operable l) (h : Narrower l (low
       let w = halves_of_range_within d.range l.range in
       omega (arith, upper_top, od.upper_most, w.high)
 
-  with_low_operable : Some n.range → Operable n
+  with_low_operable : NotEmpty n.range → Operable n
   unfolding bounds narrowed
   with_low_operable s =
       let g = with_low_form d l od.form ol.form in
@@ -440,7 +440,7 @@ module _ (d l : Number) (od : Operable d) (ol : Operable l) (h : Narrower l (low
 
 -- ---- what is left on a way out of a comparison of low halves
 module _ (c : Comparison) (way : Bool) (d s : Number) where
-  low_halves_leave_sharpened : (Q : Number → Type 0) → ((p : Bits) (t : Range) → Some (sharpened p t).range → Q (sharpened p t))
+  low_halves_leave_sharpened : (Q : Number → Type 0) → ((p : Bits) (t : Range) → NotEmpty (sharpened p t).range → Q (sharpened p t))
       → Left (low_halves c d s (told c way d s)) (λ l m. Q l × Q m)
   unfolding low_halves moved_back
   low_halves_leave_sharpened Q q =
@@ -448,8 +448,8 @@ module _ (c : Comparison) (way : Bool) (d s : Number) where
       (λ _. refined_leaves_sharpened Q q (unsigned c) way (compared c d) (compared c s))
     where
       back : (r : Refined) → Left (moved_back d s r) (λ l m. Q l × Q m)
-      back Excluded = tt
-      back (Possible u v) = firsts_leave_sharpened Q q (low_half d) (moved_half u) (low_half s) (moved_half v)
+      back None = tt
+      back (Some (u, v)) = firsts_leave_sharpened Q q (low_half d) (moved_half u) (low_half s) (moved_half v)
 
 abbrev Both : Number → Number → Type 0
 Both u v = Operable u × Operable v
@@ -457,8 +457,8 @@ Both u v = Operable u × Operable v
 module _ (d s : Number) (od : Operable d) (os : Operable s) where
   whole_operable : (r : Refined) → Left r (λ l m. (LowOf d l × LowOf s m) × Both l m) → Left (whole d s r) Both
   unfolding whole
-  whole_operable Excluded h = tt
-  whole_operable (Possible l m) h =
+  whole_operable None h = tt
+  whole_operable (Some (l, m)) h =
       settled_leaves (with_low d l) (with_low s m) Both
       (λ a b. (with_low_operable d l od h.1.0 h.0.0.narrower a, with_low_operable s m os h.1.1 h.0.1.narrower b))
 

@@ -19,7 +19,7 @@ use Rattle.number.specs.Ranges.{straight, crossed, sum_range, difference_range, 
 use Rattle.number.specs.Computed.{block}
 use Rattle.number.proofs.Cases.{both_hold, by_test, by_less, by_at_most, by_equal}
 use Rattle.number.proofs.Operands.{rest_in_order, same_quotient_between}
-use Rattle.number.proofs.Outcomes.{Some}
+use Rattle.number.proofs.Outcomes.{NotEmpty}
 use Rattle.number.proofs.RangeLaws.{sum_range_has, difference_range_has, product_range_has, quotient_range_has, rest_range_has, at_most_the_longest, or_range_has, left_range_has, right_range_has, signed_right_range_has}
 use Rattle.number.proofs.Results.{rest_is, rest_by_none}
 use Rattle.number.proofs.Sharpening.{up_to_below}
@@ -27,15 +27,15 @@ use Rattle.number.proofs.Sharpening.{up_to_below}
 -- r' lies in r, and is not empty
 pub record Shrinks (r' r : Range) : Type 0 where
   pub within : RangeWithin r' r
-  pub some : Some r'
+  pub some : NotEmpty r'
 
 pub same_range : (r : Range) → RangeWithin r r
 same_range r = record { low = le_refl r.lo; high = le_refl r.hi }
 
-some_of : (r : Range) (x : ℕ) → Within r x → Some r
+some_of : (r : Range) (x : ℕ) → Within r x → NotEmpty r
 some_of r x i = le_trans i.low i.high
 
-lowest : (r : Range) → Some r → Within r r.lo
+lowest : (r : Range) → NotEmpty r → Within r r.lo
 lowest r n = record { low = le_refl r.lo; high = n }
 
 -- ---- a range modulo m
@@ -55,7 +55,7 @@ block_shrinks m r' r p h =
           (λ n. absurd (n (sym l.0 ∙ u.0))))
           (λ _. by_equal (λ s. RangeWithin s (record { lo = 0; hi = m - 1 })) (r'.lo / m) (r'.hi / m)
           (λ _. record { low = omega arith; high = omega (arith, mod-lt r'.hi p) }) (λ _. same_range _));
-      some = by_equal Some (r'.lo / m) (r'.hi / m) (λ e. rest_in_order r'.lo r'.hi m e h.some) (λ _. omega arith);
+      some = by_equal NotEmpty (r'.lo / m) (r'.hi / m) (λ e. rest_in_order r'.lo r'.hi m e h.some) (λ _. omega arith);
     }
 
 no_longer : (u v : Range) (n : ℕ) → u.hi < 2 ^ n → v.hi < 2 ^ n → longest u v < 2 ^ n
@@ -67,7 +67,7 @@ no_longer u v n p q = up_to_below (bit_or u.hi v.hi) n (or_lt n u.hi v.hi p q)
 abbrev below_both : Range → Range → Range
 below_both a b = record { lo = 0; hi = min a.hi (b.hi - 1) }
 
-module _ (a' b' a b : Range) (ra : RangeWithin a' a) (rb : RangeWithin b' b) (na : Some a') (nb : Some b') where
+module _ (a' b' a b : Range) (ra : RangeWithin a' a) (rb : RangeWithin b' b) (na : NotEmpty a') (nb : NotEmpty b') where
   -- the ends of the less wide ranges, in the others
   al : Within a a'.lo
   al = record { low = ra.low; high = le_trans na ra.high }
@@ -99,7 +99,7 @@ module _ (a' b' a b : Range) (ra : RangeWithin a' a) (rb : RangeWithin b' b) (na
 
     -- what has a result is not empty
     some_result : (op : Operation) (r' : Range)
-        → ((x y : ℕ) → a'.hi < 2 ^ 64 → b'.hi < 2 ^ 64 → Within a' x → Within b' y → Within r' (alu 64 op x y)) → Some r'
+        → ((x y : ℕ) → a'.hi < 2 ^ 64 → b'.hi < 2 ^ 64 → Within a' x → Within b' y → Within r' (alu 64 op x y)) → NotEmpty r'
     some_result op r' has = some_of r' _ (has a'.lo b'.lo ha' hb' (lowest a' na) (lowest b' nb))
 
     pub sum_shrinks : Shrinks (sum_range a' b') (sum_range a b)

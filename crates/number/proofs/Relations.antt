@@ -13,7 +13,7 @@ use Rattle.word.specs.declared.Comparison.{Comparison}
 use Rattle.word.specs.declared.Comparison.TheVariants.{Eq, Gt, Ge, Set, Ne, Sgt, Sge, Lt, Le, Slt, Sle}
 pub use Rattle.number.specs.Demanded.{Unsigned, eq, ne, gt, ge, lt, le}
 use Rattle.number.specs.declared.Number.{Number}
-use Rattle.number.specs.declared.Refined.{Refined}
+use Rattle.number.specs.Refined.{Refined}
 use Rattle.number.specs.Compare as defined
 use Rattle.number.specs.Compare.{ordered, signed_ordered, signed_above, exchanged, equal, unequal, disjoint, overlapping, taken, not_taken, refined}
 

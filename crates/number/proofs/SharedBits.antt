@@ -7,12 +7,11 @@ use lib.Bits.{bit_and, and_lt, and_comm}
 use lib.Dec.{eqb}
 use lib.Pow.{pow_pos}
 use borrow.Author.Tests.{ne_eqb, eqb-false}
+use Rattle.std.specs.Prelude.{Option, Some, None}
 use Rattle.word.specs.Word.{bit}
 use Rattle.word.specs.declared.Comparison.TheVariants as comparison
 use Rattle.word.proofs.Bit.{bit_lt, bit_zero, bit_and_lem, bit_not, ext}
 use Rattle.known_bits.specs.declared.Bits.{Bits}
-use Rattle.known_bits.specs.declared.Learnt.{Learnt}
-use Rattle.known_bits.specs.declared.Learnt.TheVariants.{Pair, Nothing}
 use Rattle.known_bits.specs.KnownBits.{Well, Mem, Apart}
 use Rattle.known_bits.specs.Learn.{Learns}
 use Rattle.known_bits.specs.Formula.{among}
@@ -63,12 +62,12 @@ none_shared_by_tops p q gp gq e x y mx my =
     ))
 
 -- ---- none
-disjoint_by_sound : (a b : ℕ) (d s : Number) (p q : Learnt) (x y : ℕ) → Learns (Apart d.bits a) p → Learns (Apart s.bits b) q
+disjoint_by_sound : (a b : ℕ) (d s : Number) (p q : Option Bits) (x y : ℕ) → Learns (Apart d.bits a) p → Learns (Apart s.bits b) q
     → Apart d.bits a x → Apart s.bits b y → Within d.range x → Within s.range y → Kept (disjoint_by p q d s) x y
 unfolding disjoint_by
-disjoint_by_sound a b d s Nothing q x y hp hq ax ay wx wy = hp.answer x ax
-disjoint_by_sound a b d s (Pair p) Nothing x y hp hq ax ay wx wy = hq.answer y ay
-disjoint_by_sound a b d s (Pair p) (Pair q) x y hp hq ax ay wx wy =
+disjoint_by_sound a b d s None q x y hp hq ax ay wx wy = hp.answer x ax
+disjoint_by_sound a b d s (Some p) None x y hp hq ax ay wx wy = hq.answer y ay
+disjoint_by_sound a b d s (Some p) (Some q) x y hp hq ax ay wx wy =
     let g = hp.answer.0 in
     let h = hq.answer.0 in
     settled_keeps (sharpened p d.range) (sharpened q s.range) x y
@@ -99,7 +98,7 @@ pub record DisjointLeft (d s d' s' : Number) : Type 0 where
   pub none_shared : (x : ℕ) → Mem 64 d'.bits x → bit_and x s.bits.value ≡ 0
 
 -- the best pair for numbers that share no bit with s has no other number: the pair of all numbers without these bits has none
-best_is_apart : (a : Bits) (s : ℕ) (p : Bits) → s < 2 ^ 64 → Well 64 a → Learns (Apart a s) (Pair p) → (x : ℕ) → Mem 64 p x → bit_and x s ≡ 0
+best_is_apart : (a : Bits) (s : ℕ) (p : Bits) → s < 2 ^ 64 → Well 64 a → Learns (Apart a s) (Some p) → (x : ℕ) → Mem 64 p x → bit_and x s ≡ 0
 unfolding among
 best_is_apart a s p hs ga h x m =
     let i = h.answer.0.least free free_form inside x m in
@@ -127,12 +126,12 @@ best_is_apart a s p hs ga h x m =
           );
         }
 
-disjoint_by_leaves : (d s : Number) (p q : Learnt) → Well 64 d.bits → Well 64 s.bits → Learns (Apart d.bits s.bits.value) p
+disjoint_by_leaves : (d s : Number) (p q : Option Bits) → Well 64 d.bits → Well 64 s.bits → Learns (Apart d.bits s.bits.value) p
     → Learns (Apart s.bits d.bits.value) q → Left (disjoint_by p q d s) (DisjointLeft d s)
 unfolding disjoint_by
-disjoint_by_leaves d s Nothing q gd gs hp hq = tt
-disjoint_by_leaves d s (Pair p) Nothing gd gs hp hq = tt
-disjoint_by_leaves d s (Pair p) (Pair q) gd gs hp hq =
+disjoint_by_leaves d s None q gd gs hp hq = tt
+disjoint_by_leaves d s (Some p) None gd gs hp hq = tt
+disjoint_by_leaves d s (Some p) (Some q) gd gs hp hq =
     let g = hp.answer.0 in
     let h = hq.answer.0 in
     let t = hp.answer.1 in

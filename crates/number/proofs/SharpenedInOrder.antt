@@ -17,7 +17,7 @@ use Rattle.known_bits.proofs.Tight.{digit, mem_top, apart_bit}
 use Rattle.number.specs.declared.Range.{Range}
 use Rattle.number.specs.Meaning.{Within, RangeWithin, BitsWithin, Narrower}
 use Rattle.number.specs.Sharpen.{narrowed, still_unknown, learnt, sharpened}
-use Rattle.number.proofs.Outcomes.{Some}
+use Rattle.number.proofs.Outcomes.{NotEmpty}
 use Rattle.number.proofs.Sharpening.{common_quotient, up_to_below, zero_of_up_to_is_above, learnt_mask, learnt_value, learnt_form, learnt_within, narrowed_within, narrowed_below_top, narrowed_above_least}
 
 module _ (p' p : Bits) (g' : Well 64 p') (g : Well 64 p) (i : BitsWithin p' p) where
@@ -85,7 +85,7 @@ module _ (p' p : Bits) (g' : Well 64 p') (g : Well 64 p) (i : BitsWithin p' p) (
 
 -- ---- both
 module _ (p' p : Bits) (g' : Well 64 p') (g : Well 64 p) (i : BitsWithin p' p) (s' s : Range) (r : RangeWithin s' s) where
-  pub sharpened_in_order : Some (sharpened p' s').range → Narrower (sharpened p' s') (sharpened p s)
+  pub sharpened_in_order : NotEmpty (sharpened p' s').range → Narrower (sharpened p' s') (sharpened p s)
   unfolding sharpened
   sharpened_in_order n =
       let u' = narrowed p' s' in

@@ -9,6 +9,7 @@ use lib.Bits.{and_zero_r}
 use lib.Dec.{lit<}
 use lib.Pow.{pow_pos, pow-add}
 use borrow.Author.Tests.{eq-eqb, lt-ltb, le-ltb, le-leb, lt-leb}
+use Rattle.std.specs.Prelude.{Some, None}
 use Rattle.word.specs.Word.{bit, cut, alu, moved}
 use Rattle.word.specs.declared.Operation.TheVariants.{Add}
 use Rattle.word.proofs.Bit.{bit_lt, bit_zero, bit_mod, bit_add, carry}
@@ -20,8 +21,7 @@ use Rattle.known_bits.specs.Formula.{low, sum, formula, calculated}
 use Rattle.known_bits.proofs.Tight.{mem_least, mem_top, top_bit, packed_well, packed_value, spread_fits, spread_bit}
 use Rattle.number.specs.declared.Range.{Range}
 use Rattle.number.specs.declared.Number.{Number}
-use Rattle.number.specs.declared.Refined.{Refined}
-use Rattle.number.specs.declared.Refined.TheVariants.{Excluded, Possible}
+use Rattle.number.specs.Refined.{Refined}
 use Rattle.number.specs.Meaning.{Within, In, RangeWithin, Narrower, Kept, Left}
 use Rattle.number.specs.Sharpen.{narrowed, just, exact, everything}
 use Rattle.number.specs.Ranges.{straight, sum_range, ranged}
@@ -29,7 +29,7 @@ use Rattle.number.specs.Computed.{block, modulo, second, computed_range, compute
 use Rattle.number.specs.Compare.{bounds, ordered, turned, turned_back, firsts, signed_ordered, equal}
 use Rattle.number.proofs.Computing.{computed_sound}
 use Rattle.number.proofs.Sharpening.{sharpened_form, sharpened_range_within, sharpened_above_least, sharpened_below_top}
-use Rattle.number.proofs.Outcomes.{Some, Sharper, left_map, left_both, firsts_keep, firsts_leave}
+use Rattle.number.proofs.Outcomes.{NotEmpty, Sharper, left_map, left_both, firsts_keep, firsts_leave}
 use Rattle.number.proofs.Orders.{ordered_sound, ordered_leaves, OrderLeft, bounds_within_range}
 use Rattle.number.proofs.Equality.{equal_sound, equal_leaves, equal_leaves_bits}
 
@@ -66,8 +66,8 @@ turned_has_it_back n x l h = subst (λ (z : ℕ). In (turned n) z) (moved_twice 
 
 turned_back_sound : (d s : Number) (r : Refined) (x y : ℕ) → In d x → In s y → Kept r (moved 64 x) (moved 64 y) → Kept (turned_back d s r) x y
 unfolding turned_back
-turned_back_sound d s Excluded x y hx hy k = k
-turned_back_sound d s (Possible u v) x y hx hy k =
+turned_back_sound d s None x y hx hy k = k
+turned_back_sound d s (Some (u, v)) x y hx hy k =
     firsts_keep (equal d (turned u)) (equal s (turned v)) x y
     (equal_sound d (turned u) x hx (turned_has_it_back u x hx.bits.fits k.0))
     (equal_sound s (turned v) y hy (turned_has_it_back v y hy.bits.fits k.1))
@@ -197,7 +197,7 @@ unfolding modulo block exact just
 exact_modulo = refl
 
 -- the ends in signed order of a range that crosses 2 ^ 63 are 2 ^ 63 and 2 ^ 63 - 1, of any other its own
-sum_ends : (u : Range) → Some u → u.hi < 2 ^ 64 → MovedEnds (Within u) (block (2 ^ 64) (sum_range u (just (2 ^ 63))))
+sum_ends : (u : Range) → NotEmpty u → u.hi < 2 ^ 64 → MovedEnds (Within u) (block (2 ^ 64) (sum_range u (just (2 ^ 63))))
 unfolding sum_range straight everything just
 sum_ends u s h = go (dec_lt (u.hi + 2 ^ 63) (2 ^ 64)) (dec_lt (u.lo + 2 ^ 63) (2 ^ 64))
   where
@@ -226,14 +226,14 @@ sum_ends u s h = go (dec_lt (u.hi + 2 ^ 63) (2 ^ 64)) (dec_lt (u.lo + 2 ^ 63) (2
           high = le_of_eq (sym moved_before_half);
         })
 
-turned_within : (n : Number) → Well 64 n.bits → Some n.range → n.range.hi < 2 ^ 64
+turned_within : (n : Number) → Well 64 n.bits → NotEmpty n.range → n.range.hi < 2 ^ 64
     → RangeWithin (turned n).range (block (2 ^ 64) (sum_range (bounds n) (just (2 ^ 63))))
 unfolding turned computed computed_range ranged second
 turned_within n g s h =
     subst (λ (u : Range). RangeWithin (turned n).range (block (2 ^ 64) (sum_range u (just (2 ^ 63))))) (words_are_the_bounds n g (omega arith) h)
     (subst (λ (v : Range). RangeWithin (turned n).range (block (2 ^ 64) (sum_range (modulo (2 ^ 64) n) v))) exact_modulo (sharpened_range_within _ _))
 
-pub turned_ends_of_range : (n : Number) → Well 64 n.bits → Some (bounds n) → n.range.hi < 2 ^ 64 → MovedEnds (Within n.range) (turned n).range
+pub turned_ends_of_range : (n : Number) → Well 64 n.bits → NotEmpty (bounds n) → n.range.hi < 2 ^ 64 → MovedEnds (Within n.range) (turned n).range
 turned_ends_of_range n g s h =
     let b = bounds_within_range n in
     let e = sum_ends (bounds n) s (omega arith) in
@@ -252,8 +252,8 @@ turned_ends_of_range n g s h =
 -- ---- what is left
 record FirstLeft (d d' : Number) : Type 0 where
   narrower : Narrower d' d
-  some : Some d'.range
-  some_bounds : Some (bounds d)
+  some : NotEmpty d'.range
+  some_bounds : NotEmpty (bounds d)
   form : Well 64 d'.bits
 
 first_left : (d s : Number) → Well 64 d.bits → Well 64 s.bits → Left (equal d s) (λ d' s'. FirstLeft d d')
@@ -272,8 +272,8 @@ first_left d s gd gs =
 turned_back_leaves : (d s : Number) (r : Refined) (A : Type 0) → Well 64 d.bits → Well 64 s.bits → Left r (λ u v. A)
     → Left (turned_back d s r) (λ d' s'. FirstLeft d d' × FirstLeft s s' × A)
 unfolding turned_back
-turned_back_leaves d s Excluded A gd gs h = tt
-turned_back_leaves d s (Possible u v) A gd gs h =
+turned_back_leaves d s None A gd gs h = tt
+turned_back_leaves d s (Some (u, v)) A gd gs h =
     left_map (firsts (equal d (turned u)) (equal s (turned v))) (λ d' s'. FirstLeft d d' × FirstLeft s s') (λ d' s'. FirstLeft d d' × FirstLeft s s' × A)
     (λ d' s' k. (k.0, k.1, h))
     (firsts_leave (equal d (turned u)) (equal s (turned v)) (FirstLeft d) (FirstLeft s)
@@ -281,8 +281,8 @@ turned_back_leaves d s (Possible u v) A gd gs h =
 
 pub record SignedLeft (gap : ℕ) (d s d' s' : Number) : Type 0 where
   pub sharper : Sharper d s d' s'
-  pub some_bounds_first : Some (bounds d)
-  pub some_bounds_second : Some (bounds s)
+  pub some_bounds_first : NotEmpty (bounds d)
+  pub some_bounds_second : NotEmpty (bounds s)
   pub allowed : (turned d).range.lo + gap ≤ (turned s).range.hi
 
 pub signed_ordered_leaves : (gap : ℕ) (d s : Number) → Well 64 d.bits → Well 64 s.bits → Left (signed_ordered gap d s) (SignedLeft gap d s)

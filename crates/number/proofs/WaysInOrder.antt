@@ -9,11 +9,10 @@ use native.Mathlib.Omega.{arith}
 use lib.Bits.{bit_and}
 use lib.Dec.{eqb, leb, ltb, lit<}
 use borrow.Author.Tests.{leb-true, le-leb, le-ltb, ne_eqb}
+use Rattle.std.specs.Prelude.{Option, Some, None}
 use Rattle.word.specs.declared.Operation.TheVariants.{Add}
 use Rattle.word.specs.declared.Comparison.{Comparison}
 use Rattle.known_bits.specs.declared.Bits.{Bits}
-use Rattle.known_bits.specs.declared.Learnt.{Learnt}
-use Rattle.known_bits.specs.declared.Learnt.TheVariants.{Pair, Nothing}
 use Rattle.known_bits.specs.KnownBits.{Well, Both, Apart}
 use Rattle.known_bits.specs.Formula.{met}
 use Rattle.known_bits.specs.Learn.{Learns}
@@ -23,8 +22,7 @@ use Rattle.known_bits.proofs.LearnLaws.{met_learns, cleared_learns}
 use Rattle.known_bits.proofs.Tight.{mem_top}
 use Rattle.number.specs.declared.Range.{Range}
 use Rattle.number.specs.declared.Number.{Number}
-use Rattle.number.specs.declared.Refined.{Refined}
-use Rattle.number.specs.declared.Refined.TheVariants.{Excluded, Possible}
+use Rattle.number.specs.Refined.{Refined}
 use Rattle.number.specs.Meaning.{RangeWithin, Narrower, Left, LeavesNoMore}
 use Rattle.number.specs.Sharpen.{narrowed, sharpened, exact}
 use Rattle.number.specs.Compare.{settled, bounds, ordered_in, ordered, exchanged, common, equal_by, equal, empty, without, apart_from, unequal, resharpened, disjoint_by, disjoint_of, disjoint, overlapping_of, overlapping, turned, firsts, turned_back, signed_ordered, refined}
@@ -35,27 +33,27 @@ use Rattle.number.proofs.Equality.{ApartLeft, apart_leaves, equal_leaves}
 use Rattle.number.proofs.Known.{exact_in}
 use Rattle.number.proofs.Operands.{base}
 use Rattle.number.proofs.Orders.{OrderLeft, ordered_leaves}
-use Rattle.number.proofs.Outcomes.{Some, some_of_within, Sharper, left_map, left_both, unless_leaves, exchanged_leaves, firsts_leave, settled_leaves}
+use Rattle.number.proofs.Outcomes.{NotEmpty, some_of_within, Sharper, left_map, left_both, unless_leaves, exchanged_leaves, firsts_leave, settled_leaves}
 use Rattle.number.proofs.Relations.{Relation, Below, SignedBelow, Exchanged, Same, Different, Disjoint, Overlapping, told, relation, refined_is_told}
 use Rattle.number.proofs.SharedBits.{resharpened_form, none_shared_by_tops, disjoint_leaves, narrower_than_itself, overlapping_leaves}
 use Rattle.number.proofs.SharpenedInOrder.{narrowed_in_order, sharpened_in_order}
 use Rattle.number.proofs.Sharpening.{sharpened_range_within}
 use Rattle.number.proofs.Signs.{SignedLeft, signed_ordered_leaves}
 
--- ---- through the steps by which a `Refined` is made
+-- ---- through the steps by which what is left is made
 -- what has to hold if something is left may be used
 pub if_left : (r' r : Refined) (A : Type 0) → Left r' (λ d s. A) → (A → LeavesNoMore r' r) → LeavesNoMore r' r
-if_left Excluded r A l f = tt
-if_left (Possible d s) r A l f = f l
+if_left None r A l f = tt
+if_left (Some (d, s)) r A l f = f l
 
-pub settled_in_order : (d' s' d s : Number) → (Some d'.range → Some s'.range → Narrower d' d × Narrower s' s)
+pub settled_in_order : (d' s' d s : Number) → (NotEmpty d'.range → NotEmpty s'.range → Narrower d' d × Narrower s' s)
     → LeavesNoMore (settled d' s') (settled d s)
 unfolding settled
 settled_in_order d' s' d s f = go (leb d'.range.lo d'.range.hi) (leb s'.range.lo s'.range.hi) (leb-true _ _) (leb-true _ _)
   where
-    go : (a b : Bool) → (a ≡ true → Some d'.range) → (b ≡ true → Some s'.range)
-        → LeavesNoMore (cond (a && b) (Possible d' s') Excluded)
-        (cond (leb d.range.lo d.range.hi && leb s.range.lo s.range.hi) (Possible d s) Excluded)
+    go : (a b : Bool) → (a ≡ true → NotEmpty d'.range) → (b ≡ true → NotEmpty s'.range)
+        → LeavesNoMore (cond (a && b) (Some (d', s')) None)
+        (cond (leb d.range.lo d.range.hi && leb s.range.lo s.range.hi) (Some (d, s)) None)
     go true true h k =
         let n = f (h refl) (k refl) in
         rw (
@@ -68,38 +66,38 @@ settled_in_order d' s' d s f = go (leb d'.range.lo d'.range.hi) (leb s'.range.lo
 
 exchanged_in_order : (r' r : Refined) → LeavesNoMore r' r → LeavesNoMore (exchanged r') (exchanged r)
 unfolding exchanged
-exchanged_in_order Excluded r h = tt
-exchanged_in_order (Possible d' s') Excluded h = h
-exchanged_in_order (Possible d' s') (Possible d s) h = (h.1, h.0)
+exchanged_in_order None r h = tt
+exchanged_in_order (Some (d', s')) None h = h
+exchanged_in_order (Some (d', s')) (Some (d, s)) h = (h.1, h.0)
 
 pub firsts_in_order : (p' q' p q : Refined) → LeavesNoMore p' p → LeavesNoMore q' q → LeavesNoMore (firsts p' q') (firsts p q)
 unfolding firsts
-firsts_in_order Excluded q' p q h k = tt
-firsts_in_order (Possible m' _) Excluded p q h k = tt
-firsts_in_order (Possible m' _) (Possible n' _) Excluded q h k = h
-firsts_in_order (Possible m' _) (Possible n' _) (Possible m _) Excluded h k = k
-firsts_in_order (Possible m' _) (Possible n' _) (Possible m _) (Possible n _) h k = (h.0, k.0)
+firsts_in_order None q' p q h k = tt
+firsts_in_order (Some (m', _)) None p q h k = tt
+firsts_in_order (Some (m', _)) (Some (n', _)) None q h k = h
+firsts_in_order (Some (m', _)) (Some (n', _)) (Some (m, _)) None h k = k
+firsts_in_order (Some (m', _)) (Some (n', _)) (Some (m, _)) (Some (n, _)) h k = (h.0, k.0)
 
 -- ---- equality
 pub common_in_order : (u' v' u v : Range) → RangeWithin u' u → RangeWithin v' v → RangeWithin (common u' v') (common u v)
 unfolding common
 common_in_order u' v' u v a b = record { low = omega (arith, a.low, b.low); high = omega (arith, a.high, b.high) }
 
-learnt_form : (S : ℕ → Type 0) (p : Bits) → Learns S (Pair p) → Well 64 p
+learnt_form : (S : ℕ → Type 0) (p : Bits) → Learns S (Some p) → Well 64 p
 learnt_form S p h = h.answer.0.well
 
-equal_by_in_order : (S' S : ℕ → Type 0) (r' r : Learnt) (t' t : Range) → Learns S' r' → Learns S r → LearntInside r' r → RangeWithin t' t
+equal_by_in_order : (S' S : ℕ → Type 0) (r' r : Option Bits) (t' t : Range) → Learns S' r' → Learns S r → LearntInside r' r → RangeWithin t' t
     → LeavesNoMore (equal_by r' t') (equal_by r t)
 unfolding equal_by
-equal_by_in_order S' S Nothing r t' t h' h i w = tt
-equal_by_in_order S' S (Pair p') Nothing t' t h' h i w = absurd i
-equal_by_in_order S' S (Pair p') (Pair p) t' t h' h i w =
+equal_by_in_order S' S None r t' t h' h i w = tt
+equal_by_in_order S' S (Some p') None t' t h' h i w = absurd i
+equal_by_in_order S' S (Some p') (Some p) t' t h' h i w =
     let f = sharpened_in_order p' p (learnt_form S' p' h') (learnt_form S p h) i t' t w in
     settled_in_order _ _ _ _ (λ a b. (f a, f b))
 
 -- ---- inequality
 -- what lies in u and does not have the number v as an end, lies in u without it
-within_the_rest : (t u v : Range) → Some t → RangeWithin t u → (v.lo ≡ v.hi → u.lo ≡ v.lo → v.lo < t.lo)
+within_the_rest : (t u v : Range) → NotEmpty t → RangeWithin t u → (v.lo ≡ v.hi → u.lo ≡ v.lo → v.lo < t.lo)
     → (v.lo ≡ v.hi → u.hi ≡ v.lo → t.hi < v.lo) → RangeWithin t (apart_from u v)
 unfolding apart_from without empty
 within_the_rest t u v s w l h =
@@ -112,8 +110,8 @@ within_the_rest t u v s w l h =
     (λ m. absurd (omega (arith, h e q, w.low)))) (λ _. w)))
     (λ _. w)
 
-module _ (u' v' u v : Range) (hu : RangeWithin u' u) (hv : RangeWithin v' v) (su : Some (apart_from u' v'))
-    (sv : Some (apart_from v' u')) where
+module _ (u' v' u v : Range) (hu : RangeWithin u' u) (hv : RangeWithin v' v) (su : NotEmpty (apart_from u' v'))
+    (sv : NotEmpty (apart_from v' u')) where
   left : ApartLeft u' v' (apart_from u' v')
   left = apart_leaves u' v' su
 
@@ -198,21 +196,21 @@ module _ (d' s' d s : Number) (gd' : Well 64 d'.bits) (gs' : Well 64 s'.bits) (g
       ))
 
 -- ---- bits in common
-resharpened_in_order : (n' n : Number) → Well 64 n'.bits → Well 64 n.bits → Narrower n' n → Some (resharpened n').range
+resharpened_in_order : (n' n : Number) → Well 64 n'.bits → Well 64 n.bits → Narrower n' n → NotEmpty (resharpened n').range
     → Narrower (resharpened n') (resharpened n)
 unfolding resharpened
 resharpened_in_order n' n g' g h = sharpened_in_order n'.bits n.bits g' g h.bits n'.range n.range h.range
 
-disjoint_by_in_order : (S' T' S T : ℕ → Type 0) (p' q' p q : Learnt) (d' s' d s : Number) → Learns S' p' → Learns T' q' → Learns S p
+disjoint_by_in_order : (S' T' S T : ℕ → Type 0) (p' q' p q : Option Bits) (d' s' d s : Number) → Learns S' p' → Learns T' q' → Learns S p
     → Learns T q
     → LearntInside p' p → LearntInside q' q → RangeWithin d'.range d.range → RangeWithin s'.range s.range
     → LeavesNoMore (disjoint_by p' q' d' s') (disjoint_by p q d s)
 unfolding disjoint_by
-disjoint_by_in_order S' T' S T Nothing q' p q d' s' d s hp' hq' hp hq i j a b = tt
-disjoint_by_in_order S' T' S T (Pair p') Nothing p q d' s' d s hp' hq' hp hq i j a b = tt
-disjoint_by_in_order S' T' S T (Pair p') (Pair q') Nothing q d' s' d s hp' hq' hp hq i j a b = absurd i
-disjoint_by_in_order S' T' S T (Pair p') (Pair q') (Pair p) Nothing d' s' d s hp' hq' hp hq i j a b = absurd j
-disjoint_by_in_order S' T' S T (Pair p') (Pair q') (Pair p) (Pair q) d' s' d s hp' hq' hp hq i j a b =
+disjoint_by_in_order S' T' S T None q' p q d' s' d s hp' hq' hp hq i j a b = tt
+disjoint_by_in_order S' T' S T (Some p') None p q d' s' d s hp' hq' hp hq i j a b = tt
+disjoint_by_in_order S' T' S T (Some p') (Some q') None q d' s' d s hp' hq' hp hq i j a b = absurd i
+disjoint_by_in_order S' T' S T (Some p') (Some q') (Some p) None d' s' d s hp' hq' hp hq i j a b = absurd j
+disjoint_by_in_order S' T' S T (Some p') (Some q') (Some p) (Some q) d' s' d s hp' hq' hp hq i j a b =
     settled_in_order _ _ _ _ (λ m n. (
       sharpened_in_order p' p (learnt_form S' p' hp') (learnt_form S p hp) i d'.range d.range a m,
       sharpened_in_order q' q (learnt_form T' q' hq') (learnt_form T q hq) j s'.range s.range b n,
@@ -245,7 +243,7 @@ module _ (d' s' d s : Number) (gd' : Well 64 d'.bits) (gs' : Well 64 s'.bits) (g
     (hd : Narrower d' d) (hs : Narrower s' s) where
   -- what is left of halves that sharpened each other shows that neither was empty
   abbrev Sharpened : Type 0
-  Sharpened = Some (resharpened d').range × Some (resharpened s').range
+  Sharpened = NotEmpty (resharpened d').range × NotEmpty (resharpened s').range
 
   was_some : (m n : Number) → Sharper (resharpened d') (resharpened s') m n → Sharpened
   was_some m n h = (some_of_within h.first.range h.some_first, some_of_within h.second.range h.some_second)
@@ -275,7 +273,7 @@ turned_form : (n : Number) → Well 64 n.bits → Well 64 (turned n).bits
 unfolding turned
 turned_form n g = computed_form 64 (inl refl) Add n (exact (2 ^ 63)) g (exact_in (2 ^ 63) (lit< tt)).form
 
-turned_in_order : (n' n : Number) → Well 64 n'.bits → Well 64 n.bits → Narrower n' n → Some (bounds n') → Some (turned n').range
+turned_in_order : (n' n : Number) → Well 64 n'.bits → Well 64 n.bits → Narrower n' n → NotEmpty (bounds n') → NotEmpty (turned n').range
     → Narrower (turned n') (turned n)
 unfolding turned bounds base
 turned_in_order n' n g' g h s =
@@ -284,22 +282,22 @@ turned_in_order n' n g' g h s =
     (word_operand n' g' s)
     (operand_of_member 64 (omega arith) (exact (2 ^ 63)) (2 ^ 63) e)
 
-pub sharpened_bounds : (p : Bits) (t : Range) → Some (sharpened p t).range → Some (bounds (sharpened p t))
+pub sharpened_bounds : (p : Bits) (t : Range) → NotEmpty (sharpened p t).range → NotEmpty (bounds (sharpened p t))
 unfolding sharpened bounds narrowed
 sharpened_bounds p t s = omega (arith, s)
 
 -- all that is left is sharpened: what holds of each Number that is, and is not empty, holds of what is left
-module _ (Q : Number → Type 0) (q : (p : Bits) (t : Range) → Some (sharpened p t).range → Q (sharpened p t)) where
+module _ (Q : Number → Type 0) (q : (p : Bits) (t : Range) → NotEmpty (sharpened p t).range → Q (sharpened p t)) where
   abbrev Each : Number → Number → Type 0
   Each u v = Q u × Q v
 
   settled_leaves_sharpened : (p p' : Bits) (t t' : Range) → Left (settled (sharpened p t) (sharpened p' t')) Each
   settled_leaves_sharpened p p' t t' = settled_leaves (sharpened p t) (sharpened p' t') Each (λ a b. (q p t a, q p' t' b))
 
-  equal_by_leaves_sharpened : (r : Learnt) (t : Range) → Left (equal_by r t) Each
+  equal_by_leaves_sharpened : (r : Option Bits) (t : Range) → Left (equal_by r t) Each
   unfolding equal_by
-  equal_by_leaves_sharpened Nothing t = tt
-  equal_by_leaves_sharpened (Pair p) t = settled_leaves_sharpened p p t t
+  equal_by_leaves_sharpened None t = tt
+  equal_by_leaves_sharpened (Some p) t = settled_leaves_sharpened p p t t
 
   equal_leaves_sharpened : (d s : Number) → Left (equal d s) Each
   unfolding equal
@@ -311,16 +309,16 @@ module _ (Q : Number → Type 0) (q : (p : Bits) (t : Range) → Some (sharpened
       firsts_leave (equal d u) (equal s v) Q Q (left_map (equal d u) Each (λ m m'. Q m) (λ m m' h. h.0) (equal_leaves_sharpened d u))
       (left_map (equal s v) Each (λ n n'. Q n) (λ n n' h. h.0) (equal_leaves_sharpened s v))
 
-  disjoint_by_leaves_sharpened : (r r' : Learnt) (d s : Number) → Left (disjoint_by r r' d s) Each
+  disjoint_by_leaves_sharpened : (r r' : Option Bits) (d s : Number) → Left (disjoint_by r r' d s) Each
   unfolding disjoint_by
-  disjoint_by_leaves_sharpened Nothing r' d s = tt
-  disjoint_by_leaves_sharpened (Pair p) Nothing d s = tt
-  disjoint_by_leaves_sharpened (Pair p) (Pair p') d s = settled_leaves_sharpened p p' d.range s.range
+  disjoint_by_leaves_sharpened None r' d s = tt
+  disjoint_by_leaves_sharpened (Some p) None d s = tt
+  disjoint_by_leaves_sharpened (Some p) (Some p') d s = settled_leaves_sharpened p p' d.range s.range
 
   turned_back_leaves_sharpened : (d s : Number) (r : Refined) → Left (turned_back d s r) Each
   unfolding turned_back
-  turned_back_leaves_sharpened d s Excluded = tt
-  turned_back_leaves_sharpened d s (Possible u v) = firsts_leave_sharpened d (turned u) s (turned v)
+  turned_back_leaves_sharpened d s None = tt
+  turned_back_leaves_sharpened d s (Some (u, v)) = firsts_leave_sharpened d (turned u) s (turned v)
 
   told_leaves_sharpened : (r : Relation) (d s : Number) → Left (told r d s) Each
   unfolding ordered ordered_in unequal disjoint disjoint_of overlapping overlapping_of resharpened signed_ordered
@@ -342,15 +340,15 @@ module _ (Q : Number → Type 0) (q : (p : Bits) (t : Range) → Some (sharpened
 
 -- so some number is left between the ends of each pair
 abbrev pub SomeBounds : Number → Number → Type 0
-SomeBounds u v = Some (bounds u) × Some (bounds v)
+SomeBounds u v = NotEmpty (bounds u) × NotEmpty (bounds v)
 
 pub refined_leaves_bounds : (c : Comparison) (way : Bool) (d s : Number) → Left (refined c way d s) SomeBounds
-refined_leaves_bounds = refined_leaves_sharpened (λ n. Some (bounds n)) sharpened_bounds
+refined_leaves_bounds = refined_leaves_sharpened (λ n. NotEmpty (bounds n)) sharpened_bounds
 
 -- an operand of a signed order can be moved, and moved back
 record Movable (n : Number) : Type 0 where
   form : Well 64 n.bits
-  some : Some (bounds n)
+  some : NotEmpty (bounds n)
 
 ordered_leaves_movable : (gap : ℕ) (d s : Number) → Well 64 d.bits → Well 64 s.bits
     → Left (ordered gap d s) (λ u v. Movable u × Movable v)
@@ -359,13 +357,13 @@ ordered_leaves_movable gap d s gd gs =
     (λ u v h.
     (record { form = h.0.sharper.form_first gd; some = h.1.0 }, record { form = h.0.sharper.form_second gs; some = h.1.1 }))
     (left_both (ordered gap d s) (OrderLeft gap d s) SomeBounds (ordered_leaves gap d s)
-    (told_leaves_sharpened (λ n. Some (bounds n)) sharpened_bounds (Below gap) d s))
+    (told_leaves_sharpened (λ n. NotEmpty (bounds n)) sharpened_bounds (Below gap) d s))
 
 module _ (d' d : Number) (gd' : Well 64 d'.bits) (gd : Well 64 d.bits) (hd : Narrower d' d) where
   back_in_order : (u' u : Number) → Movable u' → Movable u → Narrower u' u → LeavesNoMore (equal d' (turned u')) (equal d (turned u))
   back_in_order u' u m' m h =
-      if_left (equal d' (turned u')) (equal d (turned u)) (Some (turned u').range)
-      (left_map (equal d' (turned u')) _ (λ a b. Some (turned u').range) (λ a b k. some_of_within k.second.range k.some_second)
+      if_left (equal d' (turned u')) (equal d (turned u)) (NotEmpty (turned u').range)
+      (left_map (equal d' (turned u')) _ (λ a b. NotEmpty (turned u').range) (λ a b k. some_of_within k.second.range k.some_second)
       (equal_leaves d' (turned u') gd' (turned_form u' m'.form)))
       (λ s. equal_in_order d' (turned u') d (turned u) gd' (turned_form u' m'.form) gd (turned_form u m.form) hd
       (turned_in_order u' u m'.form m.form h m'.some s))
@@ -376,17 +374,17 @@ module _ (d' s' d s : Number) (gd' : Well 64 d'.bits) (gs' : Well 64 s'.bits) (g
       → LeavesNoMore r' r
       → LeavesNoMore (turned_back d' s' r') (turned_back d s r)
   unfolding turned_back
-  turned_back_in_order Excluded r l' l h = tt
-  turned_back_in_order (Possible u' v') Excluded l' l h = absurd h
-  turned_back_in_order (Possible u' v') (Possible u v) l' l h =
+  turned_back_in_order None r l' l h = tt
+  turned_back_in_order (Some (u', v')) None l' l h = absurd h
+  turned_back_in_order (Some (u', v')) (Some (u, v)) l' l h =
       firsts_in_order (equal d' (turned u')) (equal s' (turned v')) (equal d (turned u)) (equal s (turned v))
       (back_in_order d' d gd' gd hd u' u l'.0 l.0 h.0) (back_in_order s' s gs' gs hs v' v l'.1 l.1 h.1)
 
-  turned_ordered_in_order : (gap : ℕ) → Some (bounds d') → Some (bounds s')
+  turned_ordered_in_order : (gap : ℕ) → NotEmpty (bounds d') → NotEmpty (bounds s')
       → LeavesNoMore (ordered gap (turned d') (turned s')) (ordered gap (turned d) (turned s))
   turned_ordered_in_order gap a b =
       let r' = ordered gap (turned d') (turned s') in
-      let A : Type 0 = Some (turned d').range × Some (turned s').range in
+      let A : Type 0 = NotEmpty (turned d').range × NotEmpty (turned s').range in
       if_left r' (ordered gap (turned d) (turned s)) A
       (left_map r' (OrderLeft gap (turned d') (turned s')) (λ u v. A)
       (λ u v k. let h = k.sharper in (
@@ -402,8 +400,8 @@ module _ (d' s' d s : Number) (gd' : Well 64 d'.bits) (gs' : Well 64 s'.bits) (g
   pub signed_ordered_in_order : (gap : ℕ) → LeavesNoMore (signed_ordered gap d' s') (signed_ordered gap d s)
   unfolding signed_ordered
   signed_ordered_in_order gap =
-      if_left (signed_ordered gap d' s') (signed_ordered gap d s) (Some (bounds d') × Some (bounds s'))
-      (left_map (signed_ordered gap d' s') (SignedLeft gap d' s') (λ u v. Some (bounds d') × Some (bounds s'))
+      if_left (signed_ordered gap d' s') (signed_ordered gap d s) (NotEmpty (bounds d') × NotEmpty (bounds s'))
+      (left_map (signed_ordered gap d' s') (SignedLeft gap d' s') (λ u v. NotEmpty (bounds d') × NotEmpty (bounds s'))
       (λ u v k. (k.some_bounds_first, k.some_bounds_second))
       (signed_ordered_leaves gap d' s' gd' gs'))
       (λ h. turned_back_in_order (ordered gap (turned d') (turned s')) (ordered gap (turned d) (turned s))

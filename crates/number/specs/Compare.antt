@@ -1,23 +1,21 @@
 -- What a way out of a comparison tells of the two numbers compared: that no pair of them goes it, or a sharper pair.
-use Rattle.std.specs.Prelude.{Bool, true, false, cond, ◌&&◌, ℕ, ◌+◌, ◌-◌, ◌^◌, min, max, eqb, leb, ltb}
+use Rattle.std.specs.Prelude.{Bool, true, false, cond, ◌&&◌, ℕ, ◌+◌, ◌-◌, ◌^◌, min, max, eqb, leb, ltb, Option, Some, None}
 use Rattle.std.specs.Int.Bits.{bit_and}
 use Rattle.word.specs.declared.Comparison.{Comparison}
 use Rattle.word.specs.declared.Comparison.TheVariants.{Eq, Gt, Ge, Set, Ne, Sgt, Sge, Lt, Le, Slt, Sle}
 use Rattle.word.specs.declared.Operation.TheVariants.{Add}
-use Rattle.known_bits.specs.declared.Learnt.{Learnt}
-use Rattle.known_bits.specs.declared.Learnt.TheVariants.{Pair, Nothing}
+use Rattle.known_bits.specs.declared.Bits.{Bits}
 use Rattle.known_bits.specs.Pair.{top}
 use Rattle.known_bits.specs.Formula.{cleared, met}
 use Rattle.number.specs.declared.Range.{Range}
 use Rattle.number.specs.declared.Number.{Number}
-use Rattle.number.specs.declared.Refined.{Refined}
-use Rattle.number.specs.declared.Refined.TheVariants.{Excluded, Possible}
+use Rattle.number.specs.Refined.{Refined}
 use Rattle.number.specs.Sharpen.{narrowed, sharpened, exact}
 use Rattle.number.specs.Computed.{computed}
 
 -- a way on which a range is empty is excluded
 unfoldable pub settled : Number → Number → Refined
-settled d s = cond (leb d.range.lo d.range.hi && leb s.range.lo s.range.hi) (Possible d s) Excluded
+settled d s = cond (leb d.range.lo d.range.hi && leb s.range.lo s.range.hi) (Some (d, s)) None
 
 -- the range of a Number, as far as its known bits allow
 unfoldable pub bounds : Number → Range
@@ -26,7 +24,7 @@ bounds n = narrowed n.bits n.range
 -- ---- x + gap ≤ y serves all orders: x is at most the greatest y less gap, y at least the least x and gap
 unfoldable pub ordered_in : ℕ → Number → Number → Range → Range → Refined
 ordered_in gap d s u v =
-    cond (ltb v.hi (u.lo + gap)) Excluded
+    cond (ltb v.hi (u.lo + gap)) None
     (settled (sharpened d.bits (record { lo = u.lo; hi = min u.hi (v.hi - gap) }))
     (sharpened s.bits (record { lo = max v.lo (u.lo + gap); hi = v.hi })))
 
@@ -35,8 +33,8 @@ ordered gap d s = ordered_in gap d s (bounds d) (bounds s)
 
 -- the two numbers exchanged
 unfoldable pub exchanged : Refined → Refined
-exchanged Excluded = Excluded
-exchanged (Possible d s) = Possible s d
+exchanged None = None
+exchanged (Some (d, s)) = Some (s, d)
 
 unfoldable pub above : ℕ → Number → Number → Refined
 above gap d s = exchanged (ordered gap s d)
@@ -45,9 +43,9 @@ above gap d s = exchanged (ordered gap s d)
 unfoldable pub common : Range → Range → Range
 common u v = record { lo = max u.lo v.lo; hi = min u.hi v.hi }
 
-unfoldable pub equal_by : Learnt → Range → Refined
-equal_by Nothing t = Excluded
-equal_by (Pair p) t = settled (sharpened p t) (sharpened p t)
+unfoldable pub equal_by : Option Bits → Range → Refined
+equal_by None t = None
+equal_by (Some p) t = settled (sharpened p t) (sharpened p t)
 
 unfoldable pub equal : Number → Number → Refined
 equal d s = equal_by (met d.bits s.bits) (common d.range s.range)
@@ -72,10 +70,10 @@ unfoldable pub resharpened : Number → Number
 resharpened n = sharpened n.bits n.range
 
 -- not taken: neither has a bit that the other is known to have
-unfoldable pub disjoint_by : Learnt → Learnt → Number → Number → Refined
-disjoint_by Nothing q d s = Excluded
-disjoint_by (Pair p) Nothing d s = Excluded
-disjoint_by (Pair p) (Pair q) d s = settled (sharpened p d.range) (sharpened q s.range)
+unfoldable pub disjoint_by : Option Bits → Option Bits → Number → Number → Refined
+disjoint_by None q d s = None
+disjoint_by (Some p) None d s = None
+disjoint_by (Some p) (Some q) d s = settled (sharpened p d.range) (sharpened q s.range)
 
 unfoldable pub disjoint_of : Number → Number → Refined
 disjoint_of d s = disjoint_by (cleared d.bits s.bits.value) (cleared s.bits d.bits.value) d s
@@ -85,7 +83,7 @@ disjoint d s = disjoint_of (resharpened d) (resharpened s)
 
 -- taken: some bit in common is possible
 unfoldable pub overlapping_of : Number → Number → Refined
-overlapping_of d s = cond (eqb (bit_and (top d.bits) (top s.bits)) 0) Excluded (settled d s)
+overlapping_of d s = cond (eqb (bit_and (top d.bits) (top s.bits)) 0) None (settled d s)
 
 unfoldable pub overlapping : Number → Number → Refined
 overlapping d s = overlapping_of (resharpened d) (resharpened s)
@@ -96,13 +94,13 @@ turned n = computed 64 Add n (exact (2 ^ 63))
 
 -- the first of each
 unfoldable pub firsts : Refined → Refined → Refined
-firsts Excluded q = Excluded
-firsts (Possible m _) Excluded = Excluded
-firsts (Possible m _) (Possible n _) = Possible m n
+firsts None q = None
+firsts (Some (m, _)) None = None
+firsts (Some (m, _)) (Some (n, _)) = Some (m, n)
 
 unfoldable pub turned_back : Number → Number → Refined → Refined
-turned_back d s Excluded = Excluded
-turned_back d s (Possible u v) = firsts (equal d (turned u)) (equal s (turned v))
+turned_back d s None = None
+turned_back d s (Some (u, v)) = firsts (equal d (turned u)) (equal s (turned v))
 
 unfoldable pub signed_ordered : ℕ → Number → Number → Refined
 signed_ordered gap d s = turned_back d s (ordered gap (turned d) (turned s))

@@ -1,6 +1,6 @@
 -- What docs/VERIFIER.md demands to be known of a number, in its order: a formula that forgets more, or that is wrong, makes one of these
 -- sentences false. The verifier's promise has all of them.
-use Rattle.std.specs.Prelude.{◌≡◌, Bool, true, false, not, ◌⊎◌, ◌↔◌, ℕ, ◌+◌, ◌-◌, ◌*◌, ◌/◌, ◌%◌, ◌^◌, ◌≤◌, ◌<◌, min, max}
+use Rattle.std.specs.Prelude.{◌≡◌, Bool, true, false, not, ◌⊎◌, ◌↔◌, ℕ, ◌+◌, ◌-◌, ◌*◌, ◌/◌, ◌%◌, ◌^◌, ◌≤◌, ◌<◌, min, max, Some, None}
 use Rattle.std.specs.Int.Bits.{bit_and, bit_xor}
 use Rattle.word.specs.Word.{bit, cut, alu, compare}
 use Rattle.word.specs.declared.Operation.{Operation}
@@ -14,8 +14,7 @@ use Rattle.known_bits.specs.Computed.{Computed}
 use Rattle.known_bits.specs.Formula.{low, shift_and_add, calculated}
 use Rattle.number.specs.declared.Range.{Range}
 use Rattle.number.specs.declared.Number.{Number}
-use Rattle.number.specs.declared.Refined.{Refined}
-use Rattle.number.specs.declared.Refined.TheVariants.{Excluded, Possible}
+use Rattle.number.specs.Refined.{Refined}
 use Rattle.number.specs.Meaning.{Within, In, RangeWithin, BitsWithin, Narrower, Tightest, Image, Kept, Left, Going}
 use Rattle.number.specs.Sharpen.{exact, loaded, everything, joined_number}
 use Rattle.number.specs.Ranges.{product_range, quotient_range, left_range, crossed}
@@ -70,8 +69,8 @@ LowBitsWithin n l = (x : ℕ) → Mem 64 n.bits x → Mem 64 l.bits (cut 32 x)
 
 -- something is left of the low halves too, and it bounds what is left of the whole numbers
 abbrev pub BoundedBy : Refined → Number → Number → Type 0
-BoundedBy Excluded d s = ⊥
-BoundedBy (Possible l m) d s = LowBitsWithin d l × LowBitsWithin s m
+BoundedBy None d s = ⊥
+BoundedBy (Some (l, m)) d s = LowBitsWithin d l × LowBitsWithin s m
 
 -- a number below 2 ^ 32 is its low half: of n is left n', whose range l has
 abbrev pub LowRangeWithin : Number → Number → Number → Type 0
@@ -79,8 +78,8 @@ LowRangeWithin n n' l = n.range.hi < 2 ^ 32 → RangeWithin n'.range l.range
 
 -- so of the ranges of d and s
 abbrev pub RangesBoundedBy : Number → Number → Refined → Number → Number → Type 0
-RangesBoundedBy d s Excluded d' s' = ⊥
-RangesBoundedBy d s (Possible l m) d' s' = LowRangeWithin d d' l × LowRangeWithin s s' m
+RangesBoundedBy d s None d' s' = ⊥
+RangesBoundedBy d s (Some (l, m)) d' s' = LowRangeWithin d d' l × LowRangeWithin s s' m
 
 -- a low half moved by 2 ^ 31, so that signs are in order
 abbrev pub raised_half : Number → Number
@@ -88,8 +87,8 @@ raised_half n = computed 32 Add n (exact (2 ^ 31))
 
 -- something is left of the moved halves too, and moved back it bounds what is left of the whole numbers
 abbrev pub HalvesRaisedBy : Number → Number → Refined → Number → Number → Type 0
-HalvesRaisedBy d s Excluded d' s' = ⊥
-HalvesRaisedBy d s (Possible u v) d' s' =
+HalvesRaisedBy d s None d' s' = ⊥
+HalvesRaisedBy d s (Some (u, v)) d' s' =
     LowBitsWithin d' (raised_half u) × LowBitsWithin s' (raised_half v) × LowRangeWithin d d' (raised_half u) × LowRangeWithin s s' (raised_half v)
 
 -- the signed orders, each with the order of the same name
@@ -105,8 +104,8 @@ raised n = computed 64 Add n (exact (2 ^ 63))
 
 -- something is left of the moved numbers too, and moved back it bounds what is left of the numbers
 abbrev pub RaisedBy : Refined → Number → Number → Type 0
-RaisedBy Excluded d s = ⊥
-RaisedBy (Possible u v) d s = Narrower d (raised u) × Narrower s (raised v)
+RaisedBy None d s = ⊥
+RaisedBy (Some (u, v)) d s = Narrower d (raised u) × Narrower s (raised v)
 
 -- x + gap ≤ y: of d and s are left d' and s', which reach no further than the other's ends allow
 pub record Ordered (gap : ℕ) (d s d' s' : Number) : Type 0 where
@@ -216,13 +215,13 @@ pub record OfJumps (c : Comparison) (way : Bool) : Type 0 where
   pub tightest : Unsigned c → (d : Number) (k : ℕ) → d.range.hi < 2 ^ 64 → k < 2 ^ 64
       → Left (refined c way d (exact k)) (λ d' s'. Tightest (Going c way d.range k) d'.range)
   pub excluded_if_none_goes : Unsigned c → (d : Number) (k : ℕ) → d.range.hi < 2 ^ 64 → k < 2 ^ 64
-      → ((x : ℕ) → Going c way d.range k x → ⊥) → refined c way d (exact k) ≡ Excluded
+      → ((x : ℕ) → Going c way d.range k x → ⊥) → refined c way d (exact k) ≡ None
   -- excluded if no pair of the ranges, or of the known bits, goes it; with a sign too
   pub excluded_by_ranges : ¬ (c ≡ Set) → (d s : Number) → Well 64 d.bits → Well 64 s.bits → d.range.hi < 2 ^ 64 → s.range.hi < 2 ^ 64
-      → ((x y : ℕ) → Within d.range x → Within s.range y → compare 64 c x y ≡ way → ⊥) → refined c way d s ≡ Excluded
+      → ((x y : ℕ) → Within d.range x → Within s.range y → compare 64 c x y ≡ way → ⊥) → refined c way d s ≡ None
   pub excluded_by_bits : ¬ (c ≡ Set) → (d s : Number) → Well 64 d.bits → Well 64 s.bits
-      → ((x y : ℕ) → Mem 64 d.bits x → Mem 64 s.bits y → compare 64 c x y ≡ way → ⊥) → refined c way d s ≡ Excluded
-  pub exact_excluded : (x y : ℕ) → x < 2 ^ 64 → y < 2 ^ 64 → compare 64 c x y ≡ not way → refined c way (exact x) (exact y) ≡ Excluded
+      → ((x y : ℕ) → Mem 64 d.bits x → Mem 64 s.bits y → compare 64 c x y ≡ way → ⊥) → refined c way d s ≡ None
+  pub exact_excluded : (x y : ℕ) → x < 2 ^ 64 → y < 2 ^ 64 → compare 64 c x y ≡ not way → refined c way (exact x) (exact y) ≡ None
 
 -- what a way tells of both operands, if neither is known
 pub record OfBoth (d s : Number) : Type 0 where
@@ -243,7 +242,7 @@ pub record OfBoth (d s : Number) : Type 0 where
   -- JSET not taken: neither has a bit that the other is known to have
   pub jset_not_taken : Left (refined Set false d s) (λ d' s'. (x : ℕ) → Mem 64 d'.bits x → bit_and x s.bits.value ≡ 0)
   pub jset_excluded : (way : Bool) → ((x y : ℕ) → Mem 64 d.bits x → Mem 64 s.bits y → compare 64 Set x y ≡ way → ⊥)
-      → refined Set way d s ≡ Excluded
+      → refined Set way d s ≡ None
 
 -- the same of low halves (class 6), and nothing about the upper ones
 pub record OfLowHalves (c : Comparison) (way : Bool) : Type 0 where
@@ -261,10 +260,10 @@ pub record OfLowHalves (c : Comparison) (way : Bool) : Type 0 where
   pub tightest : Unsigned c → (d : Number) (k : ℕ) → Below (2 ^ 32) d.range → k < 2 ^ 64
       → Left (refined32 c way d (exact k)) (λ d' s'. Tightest (Going32 c way d.range k) d'.range)
   pub excluded_if_none_goes : Unsigned c → (d : Number) (k : ℕ) → Below (2 ^ 32) d.range → k < 2 ^ 64
-      → ((x : ℕ) → Going32 c way d.range k x → ⊥) → refined32 c way d (exact k) ≡ Excluded
+      → ((x : ℕ) → Going32 c way d.range k x → ⊥) → refined32 c way d (exact k) ≡ None
   pub excluded_by_bits : ¬ (c ≡ Set) → (d s : Number) → Well 64 d.bits → Well 64 s.bits
-      → ((x y : ℕ) → Mem 64 d.bits x → Mem 64 s.bits y → compare 32 c x y ≡ way → ⊥) → refined32 c way d s ≡ Excluded
-  pub exact_excluded : (x y : ℕ) → x < 2 ^ 64 → y < 2 ^ 64 → compare 32 c x y ≡ not way → refined32 c way (exact x) (exact y) ≡ Excluded
+      → ((x y : ℕ) → Mem 64 d.bits x → Mem 64 s.bits y → compare 32 c x y ≡ way → ⊥) → refined32 c way d s ≡ None
+  pub exact_excluded : (x y : ℕ) → x < 2 ^ 64 → y < 2 ^ 64 → compare 32 c x y ≡ not way → refined32 c way (exact x) (exact y) ≡ None
 
 -- JSET not taken: what is left has none of the operand's bits
 pub record OfJset (d : Number) (k : ℕ) : Type 0 where

@@ -1,14 +1,13 @@
 -- What a way out of a comparison of the low 32 bits (class 6) tells of the two whole numbers: their low halves are sharpened, and nothing
 -- is told of the upper ones.
-use Rattle.std.specs.Prelude.{◌≡◌, Bool, true, false, cond, ℕ, ◌+◌, ◌*◌, ◌/◌, ◌%◌, ◌^◌, ◌≤◌, ltb}
+use Rattle.std.specs.Prelude.{◌≡◌, Bool, true, false, cond, ℕ, ◌+◌, ◌*◌, ◌/◌, ◌%◌, ◌^◌, ◌≤◌, ltb, Some, None}
 use Rattle.word.specs.declared.Comparison.{Comparison}
 use Rattle.word.specs.declared.Comparison.TheVariants.{Eq, Gt, Ge, Set, Ne, Sgt, Sge, Lt, Le, Slt, Sle}
 use Rattle.word.specs.declared.Operation.TheVariants.{Add, Mov}
 use Rattle.known_bits.specs.declared.Bits.{Bits}
 use Rattle.number.specs.declared.Range.{Range}
 use Rattle.number.specs.declared.Number.{Number}
-use Rattle.number.specs.declared.Refined.{Refined}
-use Rattle.number.specs.declared.Refined.TheVariants.{Excluded, Possible}
+use Rattle.number.specs.Refined.{Refined}
 use Rattle.number.specs.Sharpen.{exact}
 use Rattle.number.specs.Computed.{computed}
 use Rattle.number.specs.Compare.{settled, common, equal, firsts, taken, not_taken}
@@ -55,8 +54,8 @@ compared c n = cond (signed c) (moved_half n) (low_half n)
 -- ---- what is told of the halves that were compared, as that of the low halves
 -- what is left of moved halves is moved back and met with the low half as it was, since moving may forget something
 unfoldable pub moved_back : Number → Number → Refined → Refined
-moved_back d s Excluded = Excluded
-moved_back d s (Possible u v) = firsts (equal (low_half d) (moved_half u)) (equal (low_half s) (moved_half v))
+moved_back d s None = None
+moved_back d s (Some (u, v)) = firsts (equal (low_half d) (moved_half u)) (equal (low_half s) (moved_half v))
 
 -- without a sign the low halves themselves were compared
 unfoldable pub low_halves : Comparison → Number → Number → Refined → Refined
@@ -77,8 +76,8 @@ unfoldable pub with_low : Number → Number → Number
 with_low n l = record { bits = halves_of_bits n.bits l.bits; range = halves_of_range n.range l.range }
 
 unfoldable pub whole : Number → Number → Refined → Refined
-whole d s Excluded = Excluded
-whole d s (Possible l m) = settled (with_low d l) (with_low s m)
+whole d s None = None
+whole d s (Some (l, m)) = settled (with_low d l) (with_low s m)
 
 -- ---- the way of each comparison of low halves that is taken, and the one that is not
 unfoldable pub taken32 : Comparison → Number → Number → Refined

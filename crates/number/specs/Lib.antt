@@ -4,4 +4,5 @@ pub mod Demanded
 pub mod Halves
 pub mod Meaning
 pub mod Ranges
+pub mod Refined
 pub mod Sharpen

@@ -1,5 +1,5 @@
 -- Which numbers a range and a Number stand for, and what it means that one says no less than another.
-use Rattle.std.specs.Prelude.{◌≡◌, Bool, ℕ, ◌^◌, ◌≤◌}
+use Rattle.std.specs.Prelude.{◌≡◌, Bool, ℕ, ◌^◌, ◌≤◌, Some, None}
 use Rattle.word.specs.Word.{compare}
 use Rattle.word.specs.declared.Comparison.{Comparison}
 use Rattle.word.specs.declared.Operation.{Operation}
@@ -7,8 +7,7 @@ use Rattle.known_bits.specs.KnownBits.{Well, Mem}
 use Rattle.known_bits.specs.declared.Bits.{Bits}
 use Rattle.number.specs.declared.Range.{Range}
 use Rattle.number.specs.declared.Number.{Number}
-use Rattle.number.specs.declared.Refined.{Refined}
-use Rattle.number.specs.declared.Refined.TheVariants.{Excluded, Possible}
+use Rattle.number.specs.Refined.{Refined}
 use Rattle.number.specs.Computed.{modulo, second, computed}
 
 -- x lies in the range
@@ -47,13 +46,13 @@ Image f a b z = (x : ℕ) × (y : ℕ) × Within a x × Within b y × (z ≡ f x
 
 -- x and y are among the numbers that are left; nothing is left of a way that is excluded
 abbrev pub Kept : Refined → ℕ → ℕ → Type 0
-Kept Excluded x y = ⊥
-Kept (Possible d s) x y = In d x × In s y
+Kept None x y = ⊥
+Kept (Some (d, s)) x y = In d x × In s y
 
 -- P holds of what is left, if the way is not excluded
 abbrev pub Left : Refined → (Number → Number → Type 0) → Type 0
-Left Excluded P = Unit {0}
-Left (Possible d s) P = P d s
+Left None P = Unit {0}
+Left (Some (d, s)) P = P d s
 
 -- no range on the way is empty: of an operand, of what the operation takes of it, of the result
 pub record NoneEmpty (w : ℕ) (op : Operation) (a b : Number) : Type 0 where
@@ -65,9 +64,9 @@ pub record NoneEmpty (w : ℕ) (op : Operation) (a b : Number) : Type 0 where
 
 -- where more is known a way leaves nothing, or it left something before, and each number is narrower
 abbrev pub LeavesNoMore : Refined → Refined → Type 0
-LeavesNoMore Excluded r = Unit {0}
-LeavesNoMore (Possible d' s') Excluded = ⊥
-LeavesNoMore (Possible d' s') (Possible d s) = Narrower d' d × Narrower s' s
+LeavesNoMore None r = Unit {0}
+LeavesNoMore (Some (d', s')) None = ⊥
+LeavesNoMore (Some (d', s')) (Some (d, s)) = Narrower d' d × Narrower s' s
 
 -- the numbers of a range that go a way out of their comparison with k
 abbrev pub Going : Comparison → Bool → Range → ℕ → ℕ → Type 0

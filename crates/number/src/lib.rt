@@ -18,8 +18,4 @@ pub struct Number {
 }
 
 // What is left of two numbers on a way out of their comparison: none goes it, or each is sharper.
-#[derive(Clone, Copy)]
-pub enum Refined {
-    Excluded,
-    Possible(Number, Number),
-}
+pub type Refined = Option<(Number, Number)>;

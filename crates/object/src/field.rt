@@ -2,20 +2,15 @@
 ghost use Rattle.std.specs.Prelude.{◌≡◌, ◌+◌, ◌≤◌, ◌<◌, length};
 ghost use Rattle.object.specs.Object.{word16, word32, word64};
 
-// The same number: a byte that is widened here has its bound in the contract.
-fn wide(x: u8) -> u64
-    ensures { (result ≡ x) × (result < 256) }
-{
-    x as u64
-}
-
+#[tactic(auto, unfolding(crate::specs::Object::word16))]
 pub fn half(s: &[u8], at: usize) -> u64
     requires { at + 2 ≤ length s.now }
     ensures { (result ≡ word16 s.now at) × (result < 65536) }
 {
-    wide(s[at]) + 256 * wide(s[at + 1])
+    u64::from(s[at]) + 256 * u64::from(s[at + 1])
 }
 
+#[tactic(auto, unfolding(crate::specs::Object::word32))]
 pub fn word(s: &[u8], at: usize) -> u64
     requires { at + 4 ≤ length s.now }
     ensures { (result ≡ word32 s.now at) × (result < 4294967296) }
@@ -23,6 +18,7 @@ pub fn word(s: &[u8], at: usize) -> u64
     half(s, at) + 65536 * half(s, at + 2)
 }
 
+#[tactic(auto, unfolding(crate::specs::Object::word64))]
 pub fn long(s: &[u8], at: usize) -> u64
     requires { at + 8 ≤ length s.now }
     ensures { result ≡ word64 s.now at }

@@ -2,21 +2,27 @@
 // The definitions that the contracts cite are in `specs/`.
 #![tactic(auto)]
 
-ghost use Rattle.std.specs.Prelude.{true, ◌≡◌, ◌+◌, ◌*◌, ◌<◌, length};
-ghost use Rattle.object.specs.Object.{Answer, Listed, Named, executable};
+ghost use Rattle.std.specs.Prelude.{true, ◌≡◌, IfOk, IfSome};
+ghost use Rattle.text.specs.Part.{Part};
+ghost use Rattle.object.specs.Object.{Code, executable};
 
-use field::long;
-use names::{cut, find_names, next_named, read_name};
-use table::{Table, find_relocation, is_executable, next_code, read_table};
+use names::{find_name_table, next_named, short_name};
+use table::{Header, Headers, read_headers};
 
 mod field;
 mod names;
 mod table;
 
-// Where the program's bytes lie, or what is wrong: each answer has what was found in place of what is meant.
-#[derive(Clone, Copy)]
-pub enum Section {
-    At { start: usize, length: usize },
+// Where the bytes of a section lie in the file.
+#[derive(Clone, Copy, Debug, PartialEq, Eq)]
+pub struct Section {
+    pub start: usize,
+    pub length: usize,
+}
+
+// Why a file holds no program: each case has what was found in place of what is meant.
+#[derive(Clone, Copy, Debug, PartialEq, Eq)]
+pub enum ObjectError {
     NotElf,
     Class(u8),
     Data(u8),
@@ -26,158 +32,80 @@ pub enum Section {
     EntrySize(u64),
     TableOutside { start: u64, count: u64 },
     NamesOutside,
-    SectionOutside { number: u64 },
+    SectionOutside { number: usize },
     NoCode,
-    SeveralCodes { first: u64, second: u64 },
+    SeveralCodes { first: usize, second: usize },
     NoSuchName,
-    NotCode { number: u64 },
-    EmptyCode { number: u64 },
-    Relocated { number: u64, by: u64 },
-}
-
-// Where a name lies in the file.
-#[derive(Clone, Copy)]
-pub enum Name {
-    At { start: usize, length: usize },
-    None,
+    NotCode { number: usize },
+    EmptyCode { number: usize },
+    Relocated { number: usize, by: usize },
 }
 
 pub fn is_elf(file: &[u8]) -> bool {
-    if file.len() < 4 {
-        return false;
-    }
-    (file[0] == 127) & (file[1] == b'E') & (file[2] == b'L') & (file[3] == b'F')
+    file.starts_with(b"\x7fELF")
 }
 
 // The bytes of an executable section, where they lie in the file and no relocation changes them.
-fn code_at(file: &[u8], start: usize, count: usize, number: usize) -> Section
-    requires { Listed file.now start count × ((number < count) × (executable file.now (start + number * 64) ≡ true)) }
-    ensures { Answer file.now result }
+fn code_at(headers: &Headers<'_>, header: &Header<'_>) -> Result<Section, ObjectError>
+    requires { executable header.now.file.now header.now.at ≡ true }
+    ensures { IfOk result (λ s. Code header.now.file.now s.start s.length) }
 {
-    let h = start + number * 64;
-    let a = long(file, h + 24);
-    let n = long(file, h + 32);
-    let len = file.len() as u64;
-    if n == 0 {
-        return Section::EmptyCode {
-            number: number as u64,
-        };
+    let number = header.number;
+    if header.size() == 0 {
+        return Err(ObjectError::EmptyCode { number });
     }
-    if a > len {
-        return Section::SectionOutside {
-            number: number as u64,
-        };
+    let section = header
+        .section()
+        .ok_or(ObjectError::SectionOutside { number })?;
+    if let Some(by) = headers.find_relocation(number) {
+        return Err(ObjectError::Relocated { number, by });
     }
-    if n > len - a {
-        return Section::SectionOutside {
-            number: number as u64,
-        };
-    }
-    let by = find_relocation(file, start, count, number);
-    if by < count {
-        return Section::Relocated {
-            number: number as u64,
-            by: by as u64,
-        };
-    }
-    Section::At {
-        start: a as usize,
-        length: n as usize,
-    }
+    Ok(section)
 }
 
-fn only_code(file: &[u8], start: usize, count: usize) -> Section
-    requires { Listed file.now start count }
-    ensures { Answer file.now result }
+fn only_code(headers: &Headers<'_>) -> Result<Section, ObjectError>
+    ensures { IfOk result (λ s. Code headers.now.file.now s.start s.length) }
 {
-    let first = next_code(file, start, count, 0);
-    if first >= count {
-        return Section::NoCode;
+    let first = headers.next_code(0).ok_or(ObjectError::NoCode)?;
+    if let Some(second) = headers.next_code(first.number + 1) {
+        return Err(ObjectError::SeveralCodes {
+            first: first.number,
+            second: second.number,
+        });
     }
-    let second = next_code(file, start, count, first + 1);
-    if second < count {
-        return Section::SeveralCodes {
-            first: first as u64,
-            second: second as u64,
-        };
-    }
-    code_at(file, start, count, first)
+    code_at(headers, &first)
 }
 
 // The only executable section that is not empty: clang leaves an empty one beside the program's.
-pub fn find_code(file: &[u8]) -> Section
-    ensures { Answer file.now result }
+pub fn find_code(file: &[u8]) -> Result<Section, ObjectError>
+    ensures { IfOk result (λ s. Code file.now s.start s.length) }
 {
-    let table = read_table(file);
-    match table {
-        Table::Bad(s) => s,
-        Table::At { start, count } => only_code(file, start, count),
-    }
+    only_code(&read_headers(file)?)
 }
 
-fn named_code(file: &[u8], start: usize, count: usize, name: &[u8]) -> Section
-    requires { Listed file.now start count }
-    ensures { Answer file.now result }
+fn named_code(headers: &Headers<'_>, name: &[u8]) -> Result<Section, ObjectError>
+    ensures { IfOk result (λ s. Code headers.now.file.now s.start s.length) }
 {
-    let names = find_names(file, start, count);
-    let Name::At {
-        start: first,
-        length,
-    } = names
-    else {
-        return Section::NamesOutside;
-    };
-    let end = first + length;
-    let number = next_named(file, start, count, first, end, name);
-    if number >= count {
-        return Section::NoSuchName;
+    let names = find_name_table(headers).ok_or(ObjectError::NamesOutside)?;
+    let header = next_named(headers, names, name).ok_or(ObjectError::NoSuchName)?;
+    if !header.is_executable() {
+        return Err(ObjectError::NotCode {
+            number: header.number,
+        });
     }
-    if is_executable(file, start + number * 64) {
-        return code_at(file, start, count, number);
-    }
-    Section::NotCode {
-        number: number as u64,
-    }
+    code_at(headers, &header)
 }
 
 // The first section with this name.
-pub fn find_named(file: &[u8], name: &[u8]) -> Section
-    ensures { Answer file.now result }
+pub fn find_named(file: &[u8], name: &[u8]) -> Result<Section, ObjectError>
+    ensures { IfOk result (λ s. Code file.now s.start s.length) }
 {
-    let table = read_table(file);
-    match table {
-        Table::Bad(s) => s,
-        Table::At { start, count } => named_code(file, start, count, name),
-    }
-}
-
-fn listed_name(file: &[u8], start: usize, count: usize, number: u64) -> Name
-    requires { Listed file.now start count }
-    ensures { Named (length file.now) result }
-{
-    if number >= count as u64 {
-        return Name::None;
-    }
-    let names = find_names(file, start, count);
-    let Name::At {
-        start: first,
-        length,
-    } = names
-    else {
-        return Name::None;
-    };
-    let end = first + length;
-    let name = read_name(file, start + number as usize * 64, first, end);
-    cut(name, end)
+    named_code(&read_headers(file)?, name)
 }
 
 // A section's name, for messages: its first 64 characters.
-pub fn name_of(file: &[u8], number: u64) -> Name
-    ensures { Named (length file.now) result }
+pub fn name_of(file: &[u8], number: usize) -> Option<&[u8]>
+    ensures { IfSome result (λ name. Part file.now name.now) }
 {
-    let table = read_table(file);
-    match table {
-        Table::Bad(_) => Name::None,
-        Table::At { start, count } => listed_name(file, start, count, number),
-    }
+    short_name(&read_headers(file).ok()?, number)
 }

@@ -1,48 +1,51 @@
--- When the pieces of an answer lie inside of the arguments.
-use Rattle.std.specs.Prelude.{ℕ, ◌≤◌, ◌<◌}
-use Rattle.orders.specs.declared.Span.{Span}
+-- When the pieces of an answer stand in the arguments.
+use Rattle.std.specs.Prelude.{◌≡◌, List, ℕ, IfSome, Some}
+use Rattle.text.specs.Part.{Part}
+use Rattle.orders.specs.declared.Task.{Task}
+use Rattle.orders.specs.declared.Task.TheVariants.{Verify, Explain, Run, Show}
 use Rattle.orders.specs.declared.Order.{Order}
-use Rattle.orders.specs.declared.Parsed.{Parsed}
-use Rattle.orders.specs.declared.Parsed.TheVariants.{Do, HelpOn, Wrong}
-use Rattle.orders.specs.declared.step.Progress.{Progress}
-use Rattle.orders.specs.declared.step.Step.{Step}
-use Rattle.orders.specs.declared.step.Step.TheVariants as a-step
+use Rattle.orders.specs.declared.Request.{Request}
+use Rattle.orders.specs.declared.Request.TheVariants.{Do, HelpOn}
+use Rattle.orders.specs.declared.said.Said.{Said}
 
--- s is a piece of k characters
-pub record Inside (k : ℕ) (s : Span) : Type 0 where
-  pub forward : s.start ≤ s.end
-  pub within : s.end ≤ k
+-- the file of a task with a record
+abbrev pub Records : List ℕ → Task → Type 0
+Records args (Verify n) = Unit {0}
+Records args (Explain n) = Unit {0}
+Records args (Run start) = Part args start.record_file.now
+Records args Show = Unit {0}
 
-pub record Placed (k : ℕ) (o : Order) : Type 0 where
-  pub file : Inside k o.file
-  pub section : Inside k o.section
-  pub rec_file : Inside k o.rec_file
+-- the pieces of an order
+pub record Pieces (args : List ℕ) (o : Order) : Type 0 where
+  pub file : Part args o.file.now
+  pub section : IfSome o.section (λ name. Part args name.now)
+  pub task : Records args o.task
 
-abbrev pub Spans : ℕ → Parsed → Type 0
-Spans k (Do o) = Placed k o
-Spans k (HelpOn t) = Unit {0}
-Spans k (Wrong f s) = Inside k s
+abbrev pub Placed : List ℕ → Request → Type 0
+Placed args (Do o) = Pieces args o
+Placed args (HelpOn t) = Unit {0}
 
--- each piece that the answer names is one of k characters
-pub record Answer (k : ℕ) (r : Parsed) : Type 0 where
-  pub spans : Spans k r
+-- those of the words so far
+pub record Sane (args : List ℕ) (s : Said) : Type 0 where
+  pub file : IfSome s.file (λ name. Part args name.now)
+  pub section : IfSome s.section (λ name. Part args name.now)
+  pub record_file : IfSome s.record_file (λ name. Part args name.now)
 
--- what was read so far names pieces of k characters
-pub record Sane (k : ℕ) (p : Progress) : Type 0 where
-  pub next : p.next ≤ k
-  pub file : Inside k p.file
-  pub section : Inside k p.section
-  pub rec_file : Inside k p.rec_file
+-- the record's file of a task is the one that was said
+abbrev pub SaysTask : Said → Task → Type 0
+SaysTask s (Verify n) = Unit {0}
+SaysTask s (Explain n) = Unit {0}
+SaysTask s (Run start) = s.record_file ≡ Some start.record_file
+SaysTask s Show = Unit {0}
 
--- a step goes on after the index from, or stops at a piece
-pub record Gone (k from : ℕ) (p : Progress) : Type 0 where
-  pub sane : Sane k p
-  pub further : from < p.next
+-- an order's pieces are those that were said
+pub record Says (s : Said) (o : Order) : Type 0 where
+  pub file : s.file ≡ Some o.file
+  pub section : o.section ≡ s.section
+  pub task : SaysTask s o.task
 
-abbrev pub Moves : ℕ → ℕ → Step → Type 0
-Moves k from (a-step.Go p) = Gone k from p
-Moves k from a-step.Help = Unit {0}
-Moves k from (a-step.Stop f s) = Inside k s
-
-pub record Stepped (k from : ℕ) (r : Step) : Type 0 where
-  pub moves : Moves k from r
+-- the same pieces
+pub record SamePieces (old new : Said) : Type 0 where
+  pub file : new.file ≡ old.file
+  pub section : new.section ≡ old.section
+  pub record_file : new.record_file ≡ old.record_file

@@ -13,8 +13,8 @@ use Rattle.analysis.specs.declared.Reason.TheVariants.{BadLength, LongRecord, No
 use Rattle.analysis.specs.declared.Finding.{Finding}
 use Rattle.analysis.specs.declared.Finding.TheVariants as finding
 use Rattle.analysis.specs.Judged.{reason_number}
-use Rattle.analysis.specs.declared.Answer.{Answer}
-use Rattle.analysis.specs.declared.Answer.TheVariants.{Judgement, ScratchTooSmall}
+use Rattle.std.specs.Prelude.{Ok, Err}
+use Rattle.analysis.specs.Answer.{Answer}
 use Rattle.reasons.specs.Numbers.{fault_number}
 use Rattle.probewarden.specs.Encoding.{Said, finding_said, answer_said, outcome_said}
 
@@ -67,21 +67,21 @@ word_of s k = get_or s.words k 0
 
 answer_from : ℕ → Said → Answer
 answer_from code s =
-    cond (eqb code 0) (Judgement (record { finding = finding.Accepted; work = word_of s 2 }))
-    (cond (eqb code 1) (Judgement (record { finding = finding.Refused (reason_numbered (word_of s 0)) (word_of s 1); work = word_of s 2 }))
-    (ScratchTooSmall (word_of s 0)))
+    cond (eqb code 0) (Ok (record { finding = finding.Accepted; work = word_of s 2 }))
+    (cond (eqb code 1) (Ok (record { finding = finding.Refused (reason_numbered (word_of s 0)) (word_of s 1); work = word_of s 2 }))
+    (Err (record { words = word_of s 0 })))
 
 a_judgement_from_what_is_said : (n : ℕ) (f : Finding) (work : ℕ)
-    → answer_from (finding_said n f work).code (finding_said n f work) ≡ Judgement (record { finding = f; work = work })
+    → answer_from (finding_said n f work).code (finding_said n f work) ≡ Ok (record { finding = f; work = work })
 unfolding answer_from finding_said word_of
 a_judgement_from_what_is_said n finding.Accepted work = refl
 a_judgement_from_what_is_said n (finding.Refused reason place) work =
-    ap (λ r. Judgement (record { finding = finding.Refused r place; work = work })) (a_reason_by_its_number reason)
+    ap (λ r. Ok (record { finding = finding.Refused r place; work = work })) (a_reason_by_its_number reason)
 
 an_answer_from_what_is_said : (n : ℕ) (a : Answer) → answer_from (answer_said n a).code (answer_said n a) ≡ a
 unfolding answer_from answer_said word_of
-an_answer_from_what_is_said n (Judgement j) = a_judgement_from_what_is_said n j.finding j.work
-an_answer_from_what_is_said n (ScratchTooSmall words) = refl
+an_answer_from_what_is_said n (Ok j) = a_judgement_from_what_is_said n j.finding j.work
+an_answer_from_what_is_said n (Err small) = refl
 
 pub no_two_answers_are_said_alike : (n m : ℕ) (a b : Answer) → answer_said n a ≡ answer_said m b → a ≡ b
 no_two_answers_are_said_alike n m a b e =

@@ -16,8 +16,8 @@ use Rattle.analysis.specs.Form.{Orderly, HasForm}
 use Rattle.analysis.specs.Judged.{reason_number, on_values, judged}
 use Rattle.analysis.specs.Promise.{Allows, LowestRefusal, Whole, Promise}
 use Rattle.waiting.specs.Layout.{words}
-use Rattle.analysis.specs.declared.Answer.{Answer}
-use Rattle.analysis.specs.declared.Answer.TheVariants.{Judgement, ScratchTooSmall}
+use Rattle.std.specs.Prelude.{Ok, Err}
+use Rattle.analysis.specs.Answer.{Answer}
 use Rattle.verifier.specs.Answered.{Promises, is_orderly, answered}
 use Rattle.verifier.proofs.Memory.{too_small_iff}
 use Rattle.probewarden.specs.Encoding.{finding_said, answer_said, headed}
@@ -54,8 +54,8 @@ finding_words n (Refused reason place) work = (refl, refl)
 
 four_words : (n : ℕ) (a : Answer) → length (answer_said n a).words ≡ 4
 unfolding answer_said
-four_words n (Judgement j) = (finding_words n j.finding j.work).0
-four_words n (ScratchTooSmall w) = refl
+four_words n (Ok j) = (finding_words n j.finding j.work).0
+four_words n (Err small) = refl
 
 a_finding_says_its_bound : (n : ℕ) (f : Finding) (work : ℕ) → (finding_said n f work).code ≡ 0 → get_or (finding_said n f work).words 3 0 ≡ n
 unfolding finding_said
@@ -64,20 +64,20 @@ a_finding_says_its_bound n (Refused reason place) work e = absurd (omega arith)
 
 a_yes_says_its_bound : (n : ℕ) (a : Answer) → (answer_said n a).code ≡ 0 → get_or (answer_said n a).words 3 0 ≡ n
 unfolding answer_said
-a_yes_says_its_bound n (Judgement j) e = a_finding_says_its_bound n j.finding j.work e
-a_yes_says_its_bound n (ScratchTooSmall w) e = absurd (omega arith)
+a_yes_says_its_bound n (Ok j) e = a_finding_says_its_bound n j.finding j.work e
+a_yes_says_its_bound n (Err small) e = absurd (omega arith)
 
 -- ---- the answer by the memory that is lent
 
 abbrev IsJudgement : Answer → Type 0
-IsJudgement (Judgement j) = Unit {0}
-IsJudgement (ScratchTooSmall w) = ⊥
+IsJudgement (Ok j) = Unit {0}
+IsJudgement (Err small) = ⊥
 
-judged_where_enough : (program : List ℕ) (R size : ℕ) → words (count program) ≤ size → answered program R size ≡ Judgement (judged program R)
+judged_where_enough : (program : List ℕ) (R size : ℕ) → words (count program) ≤ size → answered program R size ≡ Ok (judged program R)
 unfolding answered
 judged_where_enough program R size h = rw (le-ltb size (words (count program)) h) (go (is_orderly program R))
   where
-    go : (b : Bool) → cond (b && false) (ScratchTooSmall (words (count program))) (Judgement (judged program R)) ≡ Judgement (judged program R)
+    go : (b : Bool) → cond {A = Answer} (b && false) (Err (record { words = words (count program) })) (Ok (judged program R)) ≡ Ok (judged program R)
     go true = refl
     go false = refl
 
@@ -85,7 +85,7 @@ module _ (program : List ℕ) (R size : ℕ) (a : Answer) (is : a ≡ answered p
   whole_where_enough : words (count program) ≤ size → Whole program R (judged program R).finding
   whole_where_enough h = (subst (Promises program R) (is ∙ judged_where_enough program R size h) promises).whole
 
-  judged_only_where_enough : (j : Judged) → a ≡ Judgement j → Orderly program R → words (count program) ≤ size
+  judged_only_where_enough : (j : Judged) → a ≡ Ok j → Orderly program R → words (count program) ≤ size
   judged_only_where_enough j e o = go (ltb size (words (count program))) refl
     where
       go : (b : Bool) → ltb size (words (count program)) ≡ b → words (count program) ≤ size
@@ -102,14 +102,14 @@ module _ (program : List ℕ) (R size : ℕ) (a : Answer) (is : a ≡ answered p
 
       go : (b : Answer) → a ≡ b → (f : Finding) → Tells f (answer_said (count program) b).code (answer_said (count program) b).words
           → Promise program R (record { finding = f; work = get_or (answer_said (count program) b).words 2 0 })
-      go (Judgement j) e Accepted h =
+      go (Ok j) e Accepted h =
           same j Accepted _ (said_zero_is_yes (count program) j.finding j.work h) (finding_words (count program) j.finding j.work).1
           (subst (Promises program R) e promises)
-      go (Judgement j) e (Refused reason place) h =
+      go (Ok j) e (Refused reason place) h =
           same j (Refused reason place) _ (said_one_is_no (count program) j.finding j.work reason place h.0 h.1 h.2)
           (finding_words (count program) j.finding j.work).1 (subst (Promises program R) e promises)
-      go (ScratchTooSmall w) e Accepted h = absurd (omega arith)
-      go (ScratchTooSmall w) e (Refused reason place) h = absurd (omega (arith, h.0))
+      go (Err small) e Accepted h = absurd (omega arith)
+      go (Err small) e (Refused reason place) h = absurd (omega (arith, h.0))
 
   yes_said : ((answer_said (count program) a).code ≡ 0)
       ↔ ((words (count program) ≤ size) × HasForm program R × ((j : ℕ) → j < count program → Allows program R j))
@@ -119,8 +119,8 @@ module _ (program : List ℕ) (R size : ℕ) (a : Answer) (is : a ≡ answered p
       go : (b : Answer) → a ≡ b → (answer_said (count program) b).code ≡ 0
           → HasForm program R × ((j : ℕ) → j < count program → Allows program R j)
           → (words (count program) ≤ size) × HasForm program R × ((j : ℕ) → j < count program → Allows program R j)
-      go (Judgement j) e h (form, allow) = (judged_only_where_enough j e form.orderly, form, allow)
-      go (ScratchTooSmall w) e h r = absurd (omega arith)
+      go (Ok j) e h (form, allow) = (judged_only_where_enough j e form.orderly, form, allow)
+      go (Err small) e h r = absurd (omega arith)
 
       back : (words (count program) ≤ size) × HasForm program R × ((j : ℕ) → j < count program → Allows program R j)
           → (answer_said (count program) a).code ≡ 0
@@ -135,8 +135,8 @@ module _ (program : List ℕ) (R size : ℕ) (a : Answer) (is : a ≡ answered p
       go : (b : Answer) → a ≡ b → Tells (Refused reason place) (answer_said (count program) b).code (answer_said (count program) b).words
           → HasForm program R × LowestRefusal program R reason place
           → (words (count program) ≤ size) × HasForm program R × LowestRefusal program R reason place
-      go (Judgement j) e h (form, lowest) = (judged_only_where_enough j e form.orderly, form, lowest)
-      go (ScratchTooSmall w) e h r = absurd (omega (arith, h.0))
+      go (Ok j) e h (form, lowest) = (judged_only_where_enough j e form.orderly, form, lowest)
+      go (Err small) e h r = absurd (omega (arith, h.0))
 
       back : (words (count program) ≤ size) × HasForm program R × LowestRefusal program R reason place
           → Tells (Refused reason place) (answer_said (count program) a).code (answer_said (count program) a).words
@@ -148,8 +148,8 @@ module _ (program : List ℕ) (R size : ℕ) (a : Answer) (is : a ≡ answered p
   too_small_said = (go a refl, λ h. rw (is, (too_small_iff program R size _).1 (h.0, refl, h.1)) refl)
     where
       go : (b : Answer) → a ≡ b → (answer_said (count program) b).code ≡ 2 → Orderly program R × (size < words (count program))
-      go (Judgement j) e h = absurd (a_finding_is_not_two (count program) j.finding j.work h)
-      go (ScratchTooSmall w) e h = let t = (too_small_iff program R size w).0 (sym is ∙ e) in (t.0, t.2)
+      go (Ok j) e h = absurd (a_finding_is_not_two (count program) j.finding j.work h)
+      go (Err small) e h = let t = (too_small_iff program R size small.words).0 (sym is ∙ e) in (t.0, t.2)
 
   pub an_answer_means : (before after : List ℕ) (rules code : ℕ) → Taken rules before → Says (answer_said (count program) a) before after code
       → Means program R rules size before after code

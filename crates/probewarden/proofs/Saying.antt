@@ -1,36 +1,19 @@
 -- What a C function promises, from what the routine that it calls promises.
 use mathlib.Core.Path.{◌≡◌, refl, sym, ap}
-use mathlib.Core.List.{List, [], ◌∷◌}
+use mathlib.Core.List.{List}
 use Prim.Native.Nat.{ℕ, ◌/◌, ◌≤◌, ◌<◌}
-use lib.ListN.{length, set}
+use lib.ListN.{length}
 use native.Mathlib.Omega.{arith}
 use Rattle.machine.specs.declared.outcome.Outcome.{Outcome}
 use Rattle.machine.specs.Machine.{Done, interpreted}
 use Rattle.analysis.specs.declared.Finding.{Finding}
 use Rattle.analysis.specs.declared.Finding.TheVariants.{Accepted, Refused}
-use Rattle.analysis.specs.declared.Answer.{Answer}
+use Rattle.analysis.specs.Answer.{Answer}
 use Rattle.verifier.specs.Answered.{Promises, Untouched, answered}
 use Rattle.verifier.proofs.Answers.{unchanged}
 use Rattle.probewarden.specs.Encoding.{Said, answer_said, outcome_said, headed}
 use Rattle.probewarden.specs.Exported.{Says, Taken, Tells, Means, Verified, Interpreted}
 use Rattle.probewarden.proofs.Meaning.{an_answer_means}
-
--- ---- words in place of the first three or four
-
-pub three_words_stored : (a b c : ℕ) (l : List ℕ) → 3 ≤ length l → set (set (set l 0 a) 1 b) 2 c ≡ headed (a ∷ b ∷ c ∷ []) l
-unfolding headed
-three_words_stored a b c [] h = absurd (omega arith)
-three_words_stored a b c (x ∷ []) h = absurd (omega arith)
-three_words_stored a b c (x ∷ y ∷ []) h = absurd (omega arith)
-three_words_stored a b c (x ∷ y ∷ z ∷ l) h = refl
-
-pub a_fourth_word_stored : (a b c d : ℕ) (l : List ℕ) → 4 ≤ length l → set (headed (a ∷ b ∷ c ∷ []) l) 3 d ≡ headed (a ∷ b ∷ c ∷ d ∷ []) l
-unfolding headed
-a_fourth_word_stored a b c d [] h = absurd (omega arith)
-a_fourth_word_stored a b c d (x ∷ []) h = absurd (omega arith)
-a_fourth_word_stored a b c d (x ∷ y ∷ []) h = absurd (omega arith)
-a_fourth_word_stored a b c d (x ∷ y ∷ z ∷ []) h = absurd (omega arith)
-a_fourth_word_stored a b c d (x ∷ y ∷ z ∷ w ∷ l) h = refl
 
 pub is_said : (said : Said) (before after : List ℕ) (code : ℕ) (words : List ℕ) → said ≡ record { code = code; words = words }
     → after ≡ headed words before → Says said before after code

@@ -1,13 +1,12 @@
 -- What the C functions answer: a code, and the words at the start of the caller's answer.
-use Rattle.std.specs.Prelude.{List, [], ◌∷◌, ◌++◌, ℕ, length, drop}
+use Rattle.std.specs.Prelude.{Ok, Err, List, [], ◌∷◌, ◌++◌, ℕ, length, drop}
 use Rattle.machine.specs.declared.outcome.Outcome.{Outcome}
 use Rattle.machine.specs.declared.outcome.Outcome.TheVariants.{Verdict, Fault, Budget, Refused}
 use Rattle.analysis.specs.declared.Finding.{Finding}
 use Rattle.analysis.specs.declared.Finding.TheVariants as finding
 use Rattle.analysis.specs.Judged.{reason_number}
 use Rattle.reasons.specs.Numbers.{fault_number}
-use Rattle.analysis.specs.declared.Answer.{Answer}
-use Rattle.analysis.specs.declared.Answer.TheVariants.{Judgement, ScratchTooSmall}
+use Rattle.analysis.specs.Answer.{Answer}
 
 pub record Said : Type 0 where
   pub code : ℕ
@@ -20,8 +19,8 @@ finding_said n finding.Accepted work = record { code = 0; words = 0 ∷ 0 ∷ wo
 finding_said n (finding.Refused reason place) work = record { code = 1; words = reason_number reason ∷ place ∷ work ∷ 0 ∷ [] }
 
 unfoldable pub answer_said : ℕ → Answer → Said
-answer_said n (Judgement j) = finding_said n j.finding j.work
-answer_said n (ScratchTooSmall words) = record { code = 2; words = words ∷ 0 ∷ 0 ∷ 0 ∷ [] }
+answer_said n (Ok j) = finding_said n j.finding j.work
+answer_said n (Err e) = record { code = 2; words = e.words ∷ 0 ∷ 0 ∷ 0 ∷ [] }
 
 -- a verdict; a fault with its number and the index; a spent budget; all with the steps made. A refusal says no more
 unfoldable pub outcome_said : Outcome → Said

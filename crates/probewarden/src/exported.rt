@@ -1,42 +1,37 @@
 // The functions of the C library, as include/probewarden.h declares them: crate `probewarden_c` gives them to C.
 ghost use Rattle.std.specs.Prelude.{◌≡◌, [], ◌∷◌, ◌≤◌, length};
 ghost use Rattle.text.specs.Buffer.{Put};
+ghost use Rattle.text.specs.Page.{Wrote};
 ghost use Rattle.probewarden.specs.Encoding.{answer_said, ended, headed};
 ghost use Rattle.probewarden.specs.Exported.{enough, Says, Verified, Interpreted};
 ghost use Rattle.reasons.specs.Names.{reason_name, fault_name};
 
-use analysis::{Answer, Finding};
+use analysis::{Answer, Finding, Judged, ScratchTooSmall};
 use interpreter::interpret;
 use machine::outcome::Outcome;
-use reasons::{fault_number, put_fault, put_reason, reason_number};
-use text::buffer::put;
+use reasons::{fault_name, fault_number, reason_name, reason_number};
+use text::page::Page;
 use verifier::verify::verify;
 use waiting::BLOCK_WORDS;
 
+// Kept: C reads these codes, and those that `tell` and `pw_run` answer, as include/probewarden.h has them.
 // Why nothing was done: there is no room for the answer.
 const NO_ROOM: u64 = 9;
 
 // Or there are no such rules.
 const BAD_RULES: u64 = 11;
 
-fn store(answer: &mut [u64], a: u64, b: u64, c: u64)
-    requires { 3 ≤ length answer.old }
-    ensures { answer.new ≡ headed (a ∷ b ∷ c ∷ []) answer.old }
+// The words go to the start of the answer.
+#[tactic(auto, unfolding(crate::specs::Encoding::headed))]
+fn store<const N: usize>(answer: &mut [u64], words: [u64; N])
+    requires { N ≤ length answer.old }
+    ensures { answer.new ≡ headed words.entry answer.old }
 {
-    answer[0] = a;
-    answer[1] = b;
-    answer[2] = c;
-}
-
-fn store_four(answer: &mut [u64], a: u64, b: u64, c: u64, d: u64)
-    requires { 4 ≤ length answer.old }
-    ensures { answer.new ≡ headed (a ∷ b ∷ c ∷ d ∷ []) answer.old }
-{
-    store(answer, a, b, c);
-    answer[3] = d;
+    answer[..N].copy_from_slice(&words);
 }
 
 // The words of scratch memory that are enough for a program of so many instructions.
+#[tactic(auto, unfolding(crate::specs::Exported::enough, waiting::specs::Layout::words))]
 pub fn pw_scratch_words(instructions: u64) -> u64
     ensures { result ≡ enough instructions }
 {
@@ -52,24 +47,20 @@ fn tell(answer: &mut [u64], n: u64, found: Answer) -> u64
     ensures { Says (answer_said n found) answer.old answer.new result }
 {
     match found {
-        Answer::ScratchTooSmall { words } => {
-            store_four(answer, words, 0, 0, 0);
+        Err(ScratchTooSmall { words }) => {
+            store(answer, [words, 0, 0, 0]);
             2
         }
-        Answer::Judgement(judged) => {
-            let finding = judged.finding;
-            let work = judged.work;
-            match finding {
-                Finding::Accepted => {
-                    store_four(answer, 0, 0, work, n);
-                    0
-                }
-                Finding::Refused { reason, place } => {
-                    store_four(answer, reason_number(reason), place, work, 0);
-                    1
-                }
+        Ok(Judged { finding, work }) => match finding {
+            Finding::Accepted => {
+                store(answer, [0, 0, work, n]);
+                0
             }
-        }
+            Finding::Refused { reason, place } => {
+                store(answer, [reason_number(reason), place, work, 0]);
+                1
+            }
+        },
     }
 }
 
@@ -109,36 +100,48 @@ pub fn pw_run(
     if answer.len() < 3 {
         return NO_ROOM;
     }
-    let outcome = interpret(program, rec, p, s, stack, budget);
-    match outcome {
+    match interpret(program, rec, p, s, stack, budget) {
         Outcome::Verdict { value, steps } => {
-            store(answer, value, steps, 0);
+            store(answer, [value, steps, 0]);
             0
         }
         Outcome::Fault { cause, at, steps } => {
-            store(answer, fault_number(cause), steps, at);
+            store(answer, [fault_number(cause), steps, at]);
             1
         }
         Outcome::Budget { steps } => {
-            store(answer, 0, steps, 0);
+            store(answer, [0, steps, 0]);
             2
         }
         Outcome::Refused => 3,
     }
 }
 
+// A text as C has it, with a 0 behind it.
+#[tactic(auto, using(text::proofs::Pages::pages), unfolding(crate::specs::Encoding::ended))]
+fn write_ended(page: &mut Page, name: &[u8])
+    ensures { Wrote page.old (ended name.now) page.new }
+{
+    page.text(name);
+    page.letter(0);
+}
+
 // Puts a reason's name and a 0, as far as there is room, and answers how many bytes were put.
+#[tactic(auto, unfolding(text::specs::Page::written))]
 pub fn pw_reason_name(reason: u64, out: &mut [u8]) -> usize
     ensures { Put out.old 0 (ended (reason_name reason)) out.new result }
 {
-    let end = put_reason(out, 0, reason);
-    put(out, end, 0)
+    let mut page = Page::new(out);
+    write_ended(&mut page, reason_name(reason));
+    page.end()
 }
 
 // Puts a fault's name and a 0, as far as there is room, and answers how many bytes were put.
+#[tactic(auto, unfolding(text::specs::Page::written))]
 pub fn pw_fault_name(fault: u64, out: &mut [u8]) -> usize
     ensures { Put out.old 0 (ended (fault_name fault)) out.new result }
 {
-    let end = put_fault(out, 0, fault);
-    put(out, end, 0)
+    let mut page = Page::new(out);
+    write_ended(&mut page, fault_name(fault));
+    page.end()
 }

@@ -1,21 +1,20 @@
--- The names of reasons and faults by their numbers, a line each. A number from the last line on has the name of 0.
-use Rattle.std.specs.Prelude.{cond, List, ◌++◌, ℕ, ltb}
+-- The names of reasons and faults by their numbers. A number that has none has the name of 0.
+use Rattle.std.specs.Prelude.{List, [], ◌∷◌, ℕ, get_or}
 use Rattle.text.specs.Buffer.{chars}
-use Rattle.text.specs.Table.{entry_of}
 
-abbrev pub reason_names : List ℕ
+abbrev pub reason_names : List (List ℕ)
 reason_names =
-    chars "no reason\n" ++ chars "bad length\n" ++ chars "record too long\n" ++ chars "no instruction\n" ++ chars "writes r10\n" ++
-    chars "jumps back\n" ++ chars "leaves the program\n" ++ chars "reads an unset register\n" ++ chars "access may be outside\n" ++
-    chars "may report an address\n" ++ chars "no reason\n" ++ chars "no reason\n" ++ chars "dead code\n"
+    chars "no reason" ∷ chars "bad length" ∷ chars "record too long" ∷ chars "no instruction" ∷ chars "writes r10" ∷
+    chars "jumps back" ∷ chars "leaves the program" ∷ chars "reads an unset register" ∷ chars "access may be outside" ∷
+    chars "may report an address" ∷ chars "no reason" ∷ chars "no reason" ∷ chars "dead code" ∷ []
 
 unfoldable pub reason_name : ℕ → List ℕ
-reason_name reason = entry_of (cond (ltb reason 13) reason 0) reason_names
+reason_name reason = get_or reason_names reason (chars "no reason")
 
-abbrev pub fault_names : List ℕ
+abbrev pub fault_names : List (List ℕ)
 fault_names =
-    chars "no fault\n" ++ chars "no instruction\n" ++ chars "off the end\n" ++ chars "read an unset register\n" ++ chars "wrote r10\n" ++
-    chars "access outside\n"
+    chars "no fault" ∷ chars "no instruction" ∷ chars "off the end" ∷ chars "read an unset register" ∷ chars "wrote r10" ∷
+    chars "access outside" ∷ []
 
 unfoldable pub fault_name : ℕ → List ℕ
-fault_name fault = entry_of (cond (ltb fault 6) fault 0) fault_names
+fault_name fault = get_or fault_names fault (chars "no fault")

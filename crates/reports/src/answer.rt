@@ -1,64 +1,58 @@
 // What the verifier answers: in a line, as an exit status, and both said.
-ghost use Rattle.std.specs.Prelude.{◌++◌, ◌≡◌, ◌≤◌, length};
-ghost use Rattle.text.specs.Buffer.{Put, decimal};
+ghost use Rattle.std.specs.Prelude.{◌≡◌};
+ghost use Rattle.text.specs.Buffer.{Put};
+ghost use Rattle.text.specs.Page.{Wrote};
 ghost use Rattle.reports.specs.Line.{refusal_text, finding_text, answer_text, finding_status, answer_status};
 
 use analysis::{Answer, Finding, Reason};
-use reasons::{put_sentence, reason_number};
+use reasons::{reason_number, sentence_of};
 use terminal::ending::finish;
 use terminal::host::Terminal;
-use text::buffer::{put, put_decimal, put_text};
+use text::page::Page;
 
-// A number in decimal, between two texts.
-fn put_number(out: &mut [u8], at: usize, before: &[u8], n: u64, after: &[u8]) -> usize
-    ensures { Put out.old at (before.now ++ decimal n ++ after.now) out.new result }
+fn write_refusal(page: &mut Page, reason: Reason, place: u64)
+    ensures { Wrote page.old (refusal_text reason place) page.new }
 {
-    let a = put_text(out, at, before);
-    let b = put_decimal(out, a, n);
-    put_text(out, b, after)
-}
-
-fn put_refusal(out: &mut [u8], reason: Reason, place: u64) -> usize
-    ensures { Put out.old 0 (refusal_text reason place) out.new result }
-{
-    let a = put_number(
-        out,
-        0,
+    page.number(
         b"refused: reason ",
         reason_number(reason),
         b" at instruction ",
     );
-    let b = put_number(out, a, b"", place, b": ");
-    let c = put_sentence(out, b, reason);
-    put(out, c, b'\n')
+    page.number(b"", place, b": ");
+    page.text(sentence_of(reason));
+    page.letter(b'\n');
 }
 
-fn put_finding(finding: Finding, n: u64, out: &mut [u8]) -> usize
-    ensures { Put out.old 0 (finding_text finding n) out.new result }
+fn write_finding(page: &mut Page, finding: Finding, n: u64)
+    ensures { Wrote page.old (finding_text finding n) page.new }
 {
     match finding {
-        Finding::Accepted => put_number(out, 0, b"accepted: at most ", n, b" steps\n"),
-        Finding::Refused { reason, place } => put_refusal(out, reason, place),
+        Finding::Accepted => page.number(b"accepted: at most ", n, b" steps\n"),
+        Finding::Refused { reason, place } => write_refusal(page, reason, place),
     }
 }
 
 // The answer on a program of n instructions.
-pub fn put_answer(answer: Answer, n: u64, out: &mut [u8]) -> usize
-    ensures { Put out.old 0 (answer_text answer n) out.new result }
+fn write_answer(page: &mut Page, answer: Answer, n: u64)
+    ensures { Wrote page.old (answer_text answer n) page.new }
 {
     match answer {
-        Answer::Judgement(judged) => {
-            let finding = judged.finding;
-            put_finding(finding, n, out)
-        }
-        Answer::ScratchTooSmall { words } => put_number(
-            out,
-            0,
+        Ok(judged) => write_finding(page, judged.finding, n),
+        Err(small) => page.number(
             b"not verified: this takes ",
-            words,
+            small.words,
             b" words of scratch memory\n",
         ),
     }
+}
+
+#[tactic(auto, unfolding(text::specs::Page::written))]
+pub fn put_answer(answer: Answer, n: u64, out: &mut [u8]) -> usize
+    ensures { Put out.old 0 (answer_text answer n) out.new result }
+{
+    let mut page = Page::new(out);
+    write_answer(&mut page, answer, n);
+    page.end()
 }
 
 fn finding_status(finding: Finding) -> u8
@@ -66,10 +60,7 @@ fn finding_status(finding: Finding) -> u8
 {
     match finding {
         Finding::Accepted => b'0',
-        Finding::Refused {
-            reason: _,
-            place: _,
-        } => b'1',
+        Finding::Refused { .. } => b'1',
     }
 }
 
@@ -78,15 +69,12 @@ pub fn status_of(answer: Answer) -> u8
     ensures { result ≡ answer_status answer }
 {
     match answer {
-        Answer::Judgement(judged) => {
-            let finding = judged.finding;
-            finding_status(finding)
-        }
-        Answer::ScratchTooSmall { words: _ } => b'2',
+        Ok(judged) => finding_status(judged.finding),
+        Err(_) => b'2',
     }
 }
 
 pub fn conclude(rt: &impl Terminal, answer: Answer, program: &[u8], out: &mut [u8]) {
     let n = put_answer(answer, (program.len() / 8) as u64, out);
-    finish(rt, out, n, status_of(answer));
+    finish(rt, &out[..n], status_of(answer));
 }

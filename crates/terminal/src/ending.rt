@@ -1,6 +1,4 @@
 // How a start ends: a line on standard output or standard error, and the status.
-ghost use Rattle.std.specs.Prelude.{◌≤◌, length};
-
 use crate::host::Terminal;
 use std::fs::OpenOptions;
 use std::io::Write;
@@ -33,29 +31,24 @@ fn write_status(rt: &impl Terminal, d: u8) -> io::Result<()> {
 }
 
 // Writes the status on descriptor 3. Where that is not open for writing, nobody asks for it.
+// Kept: a digit and no enum, since descriptor 3 has it so, and `status_zero` of `reports` is a theorem about it.
 pub fn status(rt: &impl Terminal, d: u8) {
     let _ = write_status(rt, d);
 }
 
-// Says the first n bytes of `out` on standard output.
-pub fn say(rt: &impl Terminal, out: &[u8], n: usize) -> io::Result<()>
-    requires { n ≤ length out.now }
-{
-    rt.write_all(&out[0..n])
+// Says a text on standard output.
+pub fn say(rt: &impl Terminal, text: &[u8]) -> io::Result<()> {
+    rt.write_all(text)
 }
 
-// Says the first n bytes of `out` on standard error.
-pub fn complain(rt: &impl Terminal, out: &[u8], n: usize)
-    requires { n ≤ length out.now }
-{
-    let _ = rt.warn(&out[0..n]);
+// Says a text on standard error.
+pub fn complain(rt: &impl Terminal, text: &[u8]) {
+    let _ = rt.warn(text);
 }
 
 // Ends with a line on standard error.
-pub fn stop(rt: &impl Terminal, out: &[u8], n: usize)
-    requires { n ≤ length out.now }
-{
-    complain(rt, out, n);
+pub fn stop(rt: &impl Terminal, line: &[u8]) {
+    complain(rt, line);
     status(rt, b'2');
 }
 
@@ -87,10 +80,8 @@ pub fn fail(rt: &impl Terminal, error: io::Error) {
 }
 
 // Ends with a line on standard output, whose status is `d` if it could be written.
-pub fn finish(rt: &impl Terminal, out: &[u8], n: usize, d: u8)
-    requires { n ≤ length out.now }
-{
-    match say(rt, out, n) {
+pub fn finish(rt: &impl Terminal, line: &[u8], d: u8) {
+    match say(rt, line) {
         Ok(()) => status(rt, d),
         Err(error) => fail(rt, error),
     }

@@ -1,14 +1,9 @@
-// Memory in zeros, of which a caller's proof sees how long it is and not each zero.
-ghost use Rattle.std.specs.Prelude.{◌≡◌, length};
+// Memory that is filled with one value. What a caller's proof sees is its length and a fact about each element, and no long list.
+ghost use Rattle.std.specs.Prelude.{◌≡◌, length, All};
 
-pub fn zero_bytes<const N: usize>() -> [u8; N]
-    ensures { length result ≡ N }
+pub fn filled<T: Copy, const N: usize>(value: T) -> [T; N]
+    ensures as_long { length result ≡ N }
+    ensures filled { All (λ element. element ≡ value) result }
 {
-    [0; N]
-}
-
-pub fn zero_words<const N: usize>() -> [u64; N]
-    ensures { length result ≡ N }
-{
-    [0; N]
+    [value; N]
 }

@@ -1,7 +1,7 @@
 -- The digits that `io::decimal` makes are those of the definition, and at most 20.
 use mathlib.Core.Bool.{Bool, true, false, cond}
 use mathlib.Core.List.{List, [], ◌∷◌, ◌++◌}
-use mathlib.Core.Path.{◌≡◌, ◌∙◌}
+use mathlib.Core.Path.{◌≡◌}
 use Prim.Native.Nat.{ℕ, zero, suc, ◌+◌, ◌-◌, ◌/◌, ◌%◌, ◌^◌, ◌≤◌, ◌<◌}
 use native.Mathlib.Nat.{pow-suc, one-le-pow, pow-le-pow_right}
 use native.Mathlib.Omega.{arith}
@@ -9,7 +9,7 @@ use lib.ListN.{length, length-append}
 use lib.Dec.{ltb}
 use borrow.Author.Tests.{lt-ltb, le-ltb}
 use Rattle.io.specs.Digits.{last_digits as io_digits}
-use Rattle.text.specs.Buffer.{last_digits, decimal, Put}
+use Rattle.text.specs.Buffer.{last_digits, decimal}
 
 pub one_digit_more : (b : Bool) (s : List ℕ) (d k : ℕ) → length s ≤ k → length (cond b [] s ++ (d ∷ [])) ≤ suc k
 one_digit_more true s d k h = omega arith
@@ -46,11 +46,8 @@ module _ (k n : ℕ) (g : (1 ≤ k) × (n < 10 ^ k) × (1 < k → 10 ^ (k - 1) �
       let e : 20 < k → ⊥ = λ h. omega (arith, g.2 (omega arith), pow-le-pow_right {n = 10} (omega arith) {i = 20} {j = k - 1} (omega arith)) in
       omega arith
 
-  decimal_digits : io_digits 10 k n ≡ decimal n
+  pub decimal_digits : io_digits 10 k n ≡ decimal n
   unfolding decimal
   decimal_digits =
       let e : k ≡ suc (k - 1) = omega (arith, g.0) in
       rw e (fewest_digits 20 (k - 1) n (omega (arith, at_most_twenty, g.0)) (rw e at g.1) (λ w. g.2 (omega arith)))
-
-  pub put_digits : (out : List ℕ) (at : ℕ) (ds m : List ℕ) (r : ℕ) → ds ≡ io_digits 10 k n → Put out at ds m r → Put out at (decimal n) m r
-  put_digits out at ds m r e p = rw (e ∙ decimal_digits) at p

@@ -1,6 +1,5 @@
 -- The digits that `io::hex` makes are those of the definition, and at most 16.
-use mathlib.Core.List.{List}
-use mathlib.Core.Path.{◌≡◌, ◌∙◌}
+use mathlib.Core.Path.{◌≡◌}
 use Prim.Native.Nat.{ℕ, zero, suc, ◌-◌, ◌/◌, ◌%◌, ◌^◌, ◌≤◌, ◌<◌, min, max}
 use native.Mathlib.Nat.{pow-suc, one-le-pow, pow-le-pow_right}
 use native.Mathlib.Omega.{arith}
@@ -8,7 +7,7 @@ use lib.ListN.{length}
 use lib.Dec.{ltb}
 use borrow.Author.Tests.{lt-ltb, le-ltb}
 use Rattle.io.specs.Digits.{last_digits as io_digits}
-use Rattle.text.specs.Buffer.{glyph, last_sixteens, hexadecimal, Put}
+use Rattle.text.specs.Buffer.{glyph, last_sixteens, hexadecimal}
 use Rattle.text.proofs.Decimals.{one_digit_more}
 
 sixteens_short : (k n : ℕ) → length (last_sixteens k n) ≤ k
@@ -42,11 +41,8 @@ module _ (k n : ℕ) (g : (min (max 0 1) 16 ≤ k) × (n < 16 ^ k) × (min (max 
       let e : 16 < k → ⊥ = λ h. omega (arith, g.2 (omega arith), pow-le-pow_right {n = 16} (omega arith) {i = 16} {j = k - 1} (omega arith)) in
       omega arith
 
-  hexadecimal_digits : io_digits 16 k n ≡ hexadecimal n
+  pub hexadecimal_digits : io_digits 16 k n ≡ hexadecimal n
   unfolding hexadecimal
   hexadecimal_digits =
       let e : k ≡ suc (k - 1) = omega (arith, g.0) in
       rw e (fewest_sixteens 16 (k - 1) n (omega (arith, at_most_sixteen, g.0)) (rw e at g.1) (λ w. g.2 (omega arith)))
-
-  pub put_sixteens : (out : List ℕ) (at : ℕ) (ds m : List ℕ) (r : ℕ) → ds ≡ io_digits 16 k n → Put out at ds m r → Put out at (hexadecimal n) m r
-  put_sixteens out at ds m r e p = rw (e ∙ hexadecimal_digits) at p

@@ -1,11 +1,11 @@
-pub mod Digits
-pub mod Scans
 pub mod Numbers
+pub mod Words
 pub mod Pairing
+pub mod Pairs
 pub mod Dumps
 pub mod Puts
+pub mod Pages
 pub mod Decimals
 pub mod Hexadecimals
-pub mod Pairs
 pub mod Vectors
-pub mod Tables
+pub mod Parts

@@ -1,7 +1,7 @@
 -- What one more digit does to a number that is read, and when there is none.
-use mathlib.Core.Bool.{Bool, true, false, ◌&&◌}
+use mathlib.Core.Bool.{true, false}
 use mathlib.Core.List.{List, [], ◌∷◌}
-use mathlib.Core.Path.{◌≡◌, refl, sym, ◌∙◌}
+use mathlib.Core.Path.{◌≡◌, sym, ◌∙◌}
 use Prim.Native.Nat.{ℕ, ◌+◌, ◌*◌, ◌^◌, ◌≤◌, ◌<◌}
 use native.Mathlib.Nat.{le_refl, le_trans, le-mul_of_pos_right}
 use native.Mathlib.Numerals.{add-one}
@@ -9,13 +9,10 @@ use native.Mathlib.Omega.{arith}
 use lib.ListN.{length, drop, get_or}
 use lib.Seq.{drop-cons, drop-length}
 use borrow.Author.Tests.{lt-ltb, le-ltb, le-leb, lt-leb, eq-eqb, ne_eqb}
-use Rattle.text.specs.declared.number.Number.TheVariants.{Is, Not}
-use Rattle.text.specs.Digit.{digit, Digit}
+use Rattle.std.proofs.Common.{Some, None}
+use Rattle.std.proofs.Math.Bool.{and-false}
+use Rattle.text.specs.Digit.{digit}
 use Rattle.text.specs.Number.{digits, value, number_from, number, marked, numeral}
-
-pub and-false : (t : Bool) → (t && false) ≡ false
-and-false true = refl
-and-false false = refl
 
 module _ (base : ℕ) (s : List ℕ) (i : ℕ) (l : i < length s) where
   pub digits_good : digit (get_or s i 0) < base → digits base (drop i s) ≡ digits base (drop (i + 1) s)
@@ -33,7 +30,7 @@ value_grows base n [] p = le_refl n
 value_grows base n (b ∷ s) p =
     omega (arith, value_grows base (n * base + digit b) s p, le-mul_of_pos_right n p)
 
-number_large : (base n : ℕ) (s : List ℕ) → 0 < base → 2 ^ 64 ≤ n → number_from base n s ≡ Not
+number_large : (base n : ℕ) (s : List ℕ) → 0 < base → 2 ^ 64 ≤ n → number_from base n s ≡ None
 unfolding number_from
 number_large base n s p h = simp (le-ltb _ _ (le_trans h (value_grows base n s p)), and-false)
 
@@ -46,24 +43,24 @@ unfolding number
 number_start base s h = record { same = simp (ne_eqb _ _ h) }
 
 -- the next character has the value d
-module _ (base : ℕ) (s : List ℕ) (i n d : ℕ) (g : Spelling base s i n) (l : i < length s) (v : Digit (get_or s i 0) d) where
-  pub number_bad : base ≤ d → Not ≡ number base s
+module _ (base : ℕ) (s : List ℕ) (i n : ℕ) (g : Spelling base s i n) (l : i < length s) where
+  pub number_bad : (digit (get_or s i 0) < base → ⊥) → None ≡ number base s
   unfolding number_from
-  number_bad h = sym (simp (digits_bad base s i l (omega (arith, v.value)))) ∙ g.same
+  number_bad h = sym (simp (digits_bad base s i l (omega arith))) ∙ g.same
 
-  pub number_more : d < base → Spelling base s (i + 1) (n * base + d)
+  pub number_more : (d : ℕ) → digit (get_or s i 0) < base → d ≡ digit (get_or s i 0) → Spelling base s (i + 1) (n * base + d)
   unfolding number_from digits value
-  number_more h =
-      record { same = rw v.value (sym (rw (add-one i, drop-cons s i 0 l) (simp (lt-ltb _ _ (rw v.value at h)))) ∙ g.same) }
+  number_more d h v =
+      record { same = rw v (sym (rw (add-one i, drop-cons s i 0 l) (simp (lt-ltb _ _ h))) ∙ g.same) }
 
-  pub number_over : d < base → 2 ^ 64 ≤ n * base + d → Not ≡ number base s
-  number_over h o = sym (number_large base (n * base + d) (drop (i + 1) s) (omega arith) o) ∙ (number_more h).same
+  pub number_over : (d : ℕ) → digit (get_or s i 0) < base → d ≡ digit (get_or s i 0) → (n * base + d < 2 ^ 64 → ⊥) → None ≡ number base s
+  number_over d h v o = sym (number_large base (n * base + d) (drop (i + 1) s) (omega arith) (omega arith)) ∙ (number_more d h v).same
 
-pub number_end : (base : ℕ) (s : List ℕ) (i n : ℕ) → Spelling base s i n → i ≡ length s → n < 2 ^ 64 → Is n ≡ number base s
+pub number_end : (base : ℕ) (s : List ℕ) (i n : ℕ) → Spelling base s i n → i ≡ length s → n < 2 ^ 64 → Some n ≡ number base s
 unfolding number_from digits value
 number_end base s i n g e h = sym (rw (e, drop-length s) (simp (lt-ltb n (2 ^ 64) h))) ∙ g.same
 
-pub number_none : (base : ℕ) (s : List ℕ) → length s ≡ 0 → number base s ≡ Not
+pub number_none : (base : ℕ) (s : List ℕ) → length s ≡ 0 → number base s ≡ None
 unfolding number
 number_none base s h = rw h
 

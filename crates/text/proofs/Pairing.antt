@@ -1,18 +1,20 @@
 -- What one more pair of digits does to the bytes that are read, and when there are none.
 use mathlib.Core.Bool.{true, false}
 use mathlib.Core.List.{List, [], ◌∷◌, ◌++◌, append-nil}
-use mathlib.Core.Path.{◌≡◌, refl, sym, ap, ap₂, ◌∙◌}
+use mathlib.Core.Path.{◌≡◌, refl, sym, ap, ◌∙◌}
 use Prim.Native.Nat.{ℕ, suc, ◌+◌, ◌*◌, ◌/◌, ◌≤◌, ◌<◌}
 use native.Mathlib.Numerals.{add-one}
 use native.Mathlib.Omega.{arith}
 use lib.ListN.{get_or, set, length, take, drop, drop_of_length-le}
 use lib.Seq.{drop-cons, append_snoc, take-suc-set}
 use borrow.Author.Tests.{lt-ltb, le-ltb, le-leb, lt-leb, eq-eqb, ne_eqb}
-use Rattle.text.specs.declared.hex.Bytes.TheVariants.{Are, Not}
-use Rattle.text.specs.Digit.{digit, Digit}
+use Rattle.std.proofs.Common.{Some, None, inl, inr}
+use Rattle.std.proofs.lemmas.Bool.{cases_eq}
+use Rattle.text.specs.Digit.{digit}
 use Rattle.text.specs.Number.{digits}
-use Rattle.text.specs.Hex.{fitting, paired, dash, spelled, bytes_of, Spelled}
-use Rattle.text.proofs.Numbers.{and-false, digits_good, digits_bad, digits_end}
+use Rattle.text.specs.Hex.{fitting, paired, dash, bytes_of, Spelled}
+use Rattle.std.proofs.Math.Bool.{and-false}
+use Rattle.text.proofs.Numbers.{digits_good, digits_bad, digits_end}
 
 -- i bytes are in out, and those that the rest of s spells are the ones to come
 abbrev Passed : List ℕ → List ℕ → ℕ → Type 0
@@ -38,45 +40,32 @@ passed_end s out i e all =
     sym (append-nil (take i out)) ∙ ap (λ (t : List ℕ). take i out ++ bytes_of t) (sym (drop_of_length-le s {i = i * 2} (omega arith))) ∙ all
 
 -- a word of one character spells no byte
-pub no_byte : (s : List ℕ) → length s ≡ 1 → bytes_of s ≡ []
-unfolding bytes_of
-no_byte [] e = refl
-no_byte (x ∷ []) e = refl
-no_byte (x ∷ y ∷ s) e = absurd (omega arith)
+pub no_byte_of_dash : (s : List ℕ) → true ≡ dash s → bytes_of s ≡ []
+unfolding bytes_of dash
+no_byte_of_dash [] e = refl
+no_byte_of_dash (x ∷ []) e = refl
+no_byte_of_dash (x ∷ y ∷ s) e = let n = rw (ne_eqb (length (x ∷ y ∷ s)) 1 (omega arith)) at e in cc
 
 module _ (s : List ℕ) (room : ℕ) where
-  pub paired_empty : length s ≡ 0 → paired s room ≡ Not
-  unfolding paired fitting
-  paired_empty e = simp (le-ltb 0 (length s) (omega arith))
-
-  pub paired_odd : (length s ≡ length s / 2 * 2 → ⊥) → paired s room ≡ Not
+  pub paired_odd : (length s ≡ length s / 2 * 2 → ⊥) → paired s room ≡ None
   unfolding paired fitting
   paired_odd h = simp (ne_eqb _ _ h, and-false)
 
-  pub paired_long : room < length s / 2 → paired s room ≡ Not
+  pub paired_long : room < length s / 2 → paired s room ≡ None
   unfolding paired fitting
   paired_long h = simp (lt-leb _ _ h, and-false)
 
-  paired_bad : digits 16 s ≡ false → paired s room ≡ Not
+  pub paired_empty : length s / 2 ≡ 0 → paired s room ≡ None
+  unfolding paired fitting
+  paired_empty e = elim (cases_eq (length s) 0) [ inl z ↦ simp (le-ltb 0 (length s) (omega arith)) | inr z ↦ paired_odd (λ h. z (omega arith)) ]
+
+  paired_bad : digits 16 s ≡ false → paired s room ≡ None
   unfolding paired
   paired_bad h = simp (h, and-false)
 
-  paired_good : (length s ≡ 0 → ⊥) → length s ≡ length s / 2 * 2 → length s / 2 ≤ room → digits 16 s ≡ true → paired s room ≡ Are (length s / 2)
+  paired_good : (length s ≡ 0 → ⊥) → length s ≡ length s / 2 * 2 → length s / 2 ≤ room → digits 16 s ≡ true → paired s room ≡ Some (length s / 2)
   unfolding paired fitting
   paired_good h e r d = simp (lt-ltb 0 (length s) (omega arith), eq-eqb _ _ e, le-leb _ _ r, d)
-
-  -- the tests for -, in the order of the code
-  pub spelled_long : (length s ≡ 1 → ⊥) → spelled s room ≡ paired s room
-  unfolding spelled dash
-  spelled_long h = simp (ne_eqb _ _ h)
-
-  pub spelled_other : (get_or s 0 0 ≡ 45 → ⊥) → spelled s room ≡ paired s room
-  unfolding spelled dash
-  spelled_other h = simp (ne_eqb _ _ h, and-false)
-
-  pub spelled_dash : length s ≡ 1 → get_or s 0 0 ≡ 45 → spelled s room ≡ Are 0
-  unfolding spelled dash
-  spelled_dash h e = simp (eq-eqb _ _ h, eq-eqb _ _ e)
 
 -- i pairs of s are read: their bytes are in out, and whether all of s is of digits is the question for the rest
 pub record Reading (s out : List ℕ) (i : ℕ) : Type 0 where
@@ -92,30 +81,30 @@ module _ (s out : List ℕ) (i : ℕ) (g : Reading s out i) (l : i < length s / 
   second : i * 2 + 1 < length s
   second = omega (arith, g.even)
 
-  -- the values of the pair's digits are h and b
-  module _ (h b : ℕ) (v : Digit (get_or s (i * 2) 0) h) (w : Digit (get_or s (i * 2 + 1) 0) b) (room : ℕ) where
-    pub reading_first : 16 ≤ h → Not ≡ paired s room
-    reading_first q =
-        sym (paired_bad s room (sym g.rest ∙ digits_bad 16 s (i * 2) (omega (arith, second)) (omega (arith, v.value))))
+  pub reading_first : (room : ℕ) → (digit (get_or s (i * 2) 0) < 16 → ⊥) → None ≡ paired s room
+  reading_first room q =
+      sym (paired_bad s room (sym g.rest ∙ digits_bad 16 s (i * 2) (omega (arith, second)) (omega arith)))
 
-    after_first : h < 16 → digits 16 s ≡ digits 16 (drop (i * 2 + 1) s)
-    after_first q = sym g.rest ∙ digits_good 16 s (i * 2) (omega (arith, second)) (omega (arith, v.value))
+  -- the first digit of the pair is one
+  module _ (q : digit (get_or s (i * 2) 0) < 16) where
+    after_first : digits 16 s ≡ digits 16 (drop (i * 2 + 1) s)
+    after_first = sym g.rest ∙ digits_good 16 s (i * 2) (omega (arith, second)) q
 
-    pub reading_second : h < 16 → 16 ≤ b → Not ≡ paired s room
-    reading_second q r =
-        sym (paired_bad s room (after_first q ∙ digits_bad 16 s (i * 2 + 1) second (omega (arith, w.value))))
+    pub reading_second : (room : ℕ) → (digit (get_or s (i * 2 + 1) 0) < 16 → ⊥) → None ≡ paired s room
+    reading_second room r =
+        sym (paired_bad s room (after_first ∙ digits_bad 16 s (i * 2 + 1) second (omega arith)))
 
-    pub reading_more : h < 16 → b < 16 → i < length out → (x : ℕ) → x ≡ h * 16 + b → Reading s (set out i x) (i + 1)
-    reading_more q r o x e =
+    pub reading_more : digit (get_or s (i * 2 + 1) 0) < 16 → i < length out → (x : ℕ) → x ≡ digit (get_or s (i * 2) 0) * 16 + digit (get_or s (i * 2 + 1) 0) → Reading s (set out i x) (i + 1)
+    reading_more r o x e =
         let f : (i + 1) * 2 ≡ i * 2 + 1 + 1 = omega arith in
         record {
           even = g.even;
           some = g.some;
-          rest = rw f (sym (after_first q ∙ digits_good 16 s (i * 2 + 1) second (omega (arith, w.value))));
-          passed = passed_more s out i x o second g.passed (e ∙ ap₂ (λ (a c : ℕ). a * 16 + c) v.value w.value);
+          rest = rw f (sym (after_first ∙ digits_good 16 s (i * 2 + 1) second r));
+          passed = passed_more s out i x o second g.passed e;
         }
 
-pub reading_end : (s out : List ℕ) (i room : ℕ) → Reading s out i → i ≡ length s / 2 → length s / 2 ≤ room → Spelled s out room (paired s room) (Are (length s / 2))
+pub reading_end : (s out : List ℕ) (i room : ℕ) → Reading s out i → i ≡ length s / 2 → length s / 2 ≤ room → Spelled s out room (paired s room) (Some (length s / 2))
 reading_end s out i room g e r =
     record {
       count = sym (paired_good s room g.some g.even r (sym g.rest ∙ digits_end 16 s (i * 2) (omega (arith, g.even))));

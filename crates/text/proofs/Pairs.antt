@@ -1,35 +1,43 @@
--- The two numbers of a word, by where its first stroke stands.
+-- The two numbers of a word, by where std finds its first stroke.
 use mathlib.Core.List.{List}
 use mathlib.Core.Path.{◌≡◌, ap, ap₂, ◌∙◌}
-use Prim.Native.Nat.{ℕ, ◌+◌, ◌-◌, ◌≤◌, ◌<◌}
+use Prim.Native.Nat.{ℕ, ◌+◌, ◌-◌}
 use native.Mathlib.Omega.{arith}
 use lib.ListN.{length, take, drop, length-drop}
 use lib.Seq.{take_all}
+use lib.Dec.{eqb}
 use borrow.Author.Tests.{lt-ltb, le-ltb}
-use Rattle.text.specs.declared.number.Number.{Number}
-use Rattle.text.specs.declared.pair.Pair.{Pair}
-use Rattle.text.specs.declared.pair.Pair.TheVariants.{Not}
+use Rattle.std.specs.List.{position}
+use Rattle.std.proofs.Common.{Option, Some, None}
 use Rattle.text.specs.Number.{number}
 use Rattle.text.specs.Pair.{joined, pair}
-use Rattle.text.specs.Scan.{other, Stop}
+use Rattle.text.proofs.Words.{stroke_found, stroke_missing}
 
-module _ (s : List ℕ) (i : ℕ) (g : Stop s 0 (other 47 s) i) where
-  stroke : other 47 s ≡ i
-  stroke = omega (arith, g.place)
+pub no_stroke : (s : List ℕ) → None ≡ position (λ x. eqb x 47) s → None ≡ pair s
+unfolding pair
+no_stroke s h = simp (le-ltb _ _ (stroke_missing 47 s h))
 
-  pub no_stroke : length s ≤ i → Not ≡ pair s
+module _ (s : List ℕ) (i : ℕ) (h : Some i ≡ position (λ x. eqb x 47) s) where
+  all_after : take (length s - (i + 1)) (drop (i + 1) s) ≡ drop (i + 1) s
+  all_after = take_all (length s - (i + 1)) (drop (i + 1) s) (simp length-drop (omega arith))
+
+  split : joined (number 16 (take i s)) (number 16 (drop (i + 1) s)) ≡ pair s
   unfolding pair
-  no_stroke h = rw stroke (simp (le-ltb i (length s) h))
+  split =
+      let f : _ = stroke_found 47 s i h in rw f.0 (simp (lt-ltb i (length s) f.1))
 
-  module _ (h : i < length s) where
-    all_after : take (length s - (i + 1)) (drop (i + 1) s) ≡ drop (i + 1) s
-    all_after = take_all (length s - (i + 1)) (drop (i + 1) s) (simp length-drop (omega arith))
+  pub no_first : None ≡ number 16 (take i s) → None ≡ pair s
+  unfolding joined
+  no_first e = ap (λ (a : Option ℕ). joined a (number 16 (drop (i + 1) s))) e ∙ split
 
-    split : joined (number 16 (take i s)) (number 16 (drop (i + 1) s)) ≡ pair s
-    unfolding pair
-    split = rw stroke (simp (lt-ltb i (length s) h))
+  -- x and y are read from the parts of s before and after i
+  both_parts : (x y : Option ℕ) → x ≡ number 16 (take i s) → y ≡ number 16 (take (length s - (i + 1)) (drop (i + 1) s)) → joined x y ≡ pair s
+  both_parts x y d e = ap₂ joined d (e ∙ ap (number 16) all_after) ∙ split
 
-    -- x and y are read from the parts of s before and after i
-    pub at_the_stroke : (r : Pair) (x y : Number) → r ≡ joined x y → x ≡ number 16 (take (i - 0) (drop 0 s)) → y ≡ number 16 (take (length s - (i + 1)) (drop (i + 1) s)) → r ≡ pair s
-    at_the_stroke r x y d e f =
-        let z : i - 0 ≡ i = omega arith in d ∙ ap₂ joined (e ∙ rw z) (f ∙ ap (number 16) all_after) ∙ split
+  pub no_second : (a : ℕ) → Some a ≡ number 16 (take i s) → None ≡ number 16 (take (length s - (i + 1)) (drop (i + 1) s)) → None ≡ pair s
+  unfolding joined
+  no_second a d e = both_parts (Some a) None d e
+
+  pub both_read : (a b : ℕ) → Some a ≡ number 16 (take i s) → Some b ≡ number 16 (take (length s - (i + 1)) (drop (i + 1) s)) → Some (a, b) ≡ pair s
+  unfolding joined
+  both_read a b d e = both_parts (Some a) (Some b) d e

@@ -3,10 +3,9 @@ use mathlib.Core.Bool.{Bool, true, false}
 use mathlib.Core.List.{List, [], ◌∷◌, ◌++◌}
 use mathlib.Core.Path.{◌≡◌, refl, sym, ap, ◌∙◌}
 use Prim.Native.Nat.{ℕ, suc, ◌+◌, ◌≤◌, ◌<◌}
-use native.Mathlib.Numerals.{add-one}
 use native.Mathlib.Omega.{arith}
-use lib.ListN.{length, take, drop, get_or, set, length-append}
-use lib.Seq.{sets, length-sets, sets-eq, set_out, take-suc, take_all}
+use lib.ListN.{length, take, drop, set, length-append}
+use lib.Seq.{sets, length-sets, sets-eq, set_out}
 use lib.Dec.{leb}
 use borrow.Author.Tests.{leb-true, leb-false}
 use Rattle.text.specs.Buffer.{Put}
@@ -54,10 +53,3 @@ put_room out at t m r p h = (p.text ∙ sets-eq t out at h, omega (arith, p.end)
 
 pub put_beyond : (out : List ℕ) (at : ℕ) (t m : List ℕ) (r : ℕ) → Put out at t m r → length out ≤ at → (m ≡ out) × (r ≡ at)
 put_beyond out at t m r p h = (p.text ∙ sets_out t out at h, omega (arith, p.end))
-
--- one more character of s
-pub put_more : (out : List ℕ) (at : ℕ) (s m : List ℕ) (o i : ℕ) (l : List ℕ) (r : ℕ) → Put out at (take i s) m o → Put m o (get_or s i 0 ∷ []) l r → i < length s → Put out at (take (i + 1) s) l r
-put_more out at s m o i l r p q h = rw (add-one i, take-suc s i 0 h) (put_both p q)
-
-pub put_whole : (out : List ℕ) (at : ℕ) (s m : List ℕ) (o i : ℕ) → Put out at (take i s) m o → length s ≤ i → Put out at s m o
-put_whole out at s m o i p h = rw (take_all i s h) at p

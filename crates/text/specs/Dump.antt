@@ -1,8 +1,7 @@
 -- Hexadecimal text with blanks and comments, and the digits that are left without them.
-use Rattle.std.specs.Prelude.{Bool, true, false, cond, ◌||◌, List, [], ◌∷◌, ◌++◌, ◌≡◌, ℕ, ◌+◌, ◌≤◌, ◌<◌, length, take, eqb}
-use Rattle.text.specs.declared.hex.Bytes.TheVariants as a_word
-use Rattle.text.specs.declared.dump.Dump.{Dump}
-use Rattle.text.specs.declared.dump.Dump.TheVariants.{Are, BadLetter, OddDigits, TooLong, Empty}
+use Rattle.std.specs.Prelude.{Bool, true, false, cond, ◌||◌, List, [], ◌∷◌, ◌++◌, ◌≡◌, ℕ, ◌+◌, ◌≤◌, ◌<◌, length, take, eqb, Some, None, Result, Ok, Err}
+use Rattle.text.specs.declared.dump.DumpError.{DumpError}
+use Rattle.text.specs.declared.dump.DumpError.TheVariants.{BadLetter, OddDigits, TooLong, Empty}
 use Rattle.text.specs.Hex.{paired, Spelled}
 
 -- whether a comment goes on after the character b: # starts one, and a line end ends it
@@ -32,17 +31,21 @@ pub record Bare (s bare : List ℕ) (r : ℕ) : Type 0 where
 
 -- the digits spell no bytes that have room, or the scratch memory is shorter than the text
 pub record Unspelled (s : List ℕ) (scratch room : ℕ) : Type 0 where
-  pub none : length s ≤ scratch → paired (bare_of s) room ≡ a_word.Not
+  pub none : length s ≤ scratch → paired (bare_of s) room ≡ None
+
+-- a bad letter is one of the text's
+abbrev pub Inside : List ℕ → DumpError → Type 0
+Inside s (BadLetter at) = at < length s
+Inside s OddDigits = Unit {0}
+Inside s TooLong = Unit {0}
+Inside s Empty = Unit {0}
 
 -- the bytes of out are those that the text spells; otherwise there are none, and a bad letter is one of the text's
-abbrev pub Answers : List ℕ → List ℕ → ℕ → ℕ → Dump → Type 0
-Answers s out scratch room (Are n) = Spelled (bare_of s) out room (paired (bare_of s) room) (a_word.Are n)
-Answers s out scratch room (BadLetter at) = (at < length s) × Unspelled s scratch room
-Answers s out scratch room OddDigits = Unspelled s scratch room
-Answers s out scratch room TooLong = Unspelled s scratch room
-Answers s out scratch room Empty = Unspelled s scratch room
+abbrev pub Answers : List ℕ → List ℕ → ℕ → ℕ → Result ℕ DumpError → Type 0
+Answers s out scratch room (Ok n) = Spelled (bare_of s) out room (paired (bare_of s) room) (Some n)
+Answers s out scratch room (Err e) = Inside s e × Unspelled s scratch room
 
-pub record Dumped (s out : List ℕ) (scratch room : ℕ) (r : Dump) : Type 0 where
+pub record Dumped (s out : List ℕ) (scratch room : ℕ) (r : Result ℕ DumpError) : Type 0 where
   pub answers : Answers s out scratch room r
 
 -- how many lines end in s

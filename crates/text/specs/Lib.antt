@@ -4,5 +4,6 @@ pub mod Number
 pub mod Pair
 pub mod Hex
 pub mod Buffer
+pub mod Page
 pub mod Dump
-pub mod Table
+pub mod Part

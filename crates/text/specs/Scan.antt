@@ -1,5 +1,5 @@
 -- Runs of a character at the start of a text, and when two texts are the same.
-use Rattle.std.specs.Prelude.{Bool, true, false, cond, ◌&&◌, List, [], ◌∷◌, ◌≡◌, ℕ, suc, ◌+◌, ◌≤◌, length, eqb}
+use Rattle.std.specs.Prelude.{Bool, true, false, cond, ◌&&◌, List, [], ◌∷◌, ℕ, suc, eqb}
 
 -- how many characters stand before the first that is b: all of them where none is
 unfoldable pub other : ℕ → List ℕ → ℕ
@@ -10,12 +10,6 @@ other b (x ∷ s) = cond (eqb x b) 0 (suc (other b s))
 unfoldable pub leading : ℕ → List ℕ → ℕ
 leading b [] = 0
 leading b (x ∷ s) = cond (eqb x b) (suc (leading b s)) 0
-
--- r is n characters after the index from, inside s
-pub record Stop (s : List ℕ) (from n r : ℕ) : Type 0 where
-  pub start : from ≤ r
-  pub inside : r ≤ length s
-  pub place : r ≡ from + n
 
 -- the same characters in the same order
 unfoldable pub equal : List ℕ → List ℕ → Bool

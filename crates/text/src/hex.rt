@@ -1,61 +1,34 @@
 // Bytes read from hexadecimal text.
-ghost use Rattle.std.specs.Prelude.{◌≡◌, ◌+◌, ◌*◌, ◌≤◌, ◌<◌, length};
+ghost use Rattle.std.specs.Prelude.{length};
 ghost use Rattle.text.specs.Hex.{Spelled, paired, spelled};
 
 use crate::digit::value_of;
 
-#[derive(Clone, Copy)]
-pub enum Bytes {
-    Are(usize),
-    Not,
-}
-
-fn byte(x: u64) -> u8
-    requires { x < 256 }
-    ensures { result ≡ x }
-{
-    x as u8
-}
-
-// The bytes that pairs of digits spell go to the start of `out`.
-pub fn read_pairs(s: &[u8], out: &mut [u8]) -> Bytes
+// The bytes that pairs of digits spell go to the start of `out`; the answer is how many they are.
+#[tactic(auto, using(crate::proofs::Pairing::reading_start, crate::proofs::Pairing::reading_first, crate::proofs::Pairing::reading_second, crate::proofs::Pairing::paired_empty, crate::proofs::Pairing::paired_odd, crate::proofs::Pairing::paired_long))]
+pub fn read_pairs(s: &[u8], out: &mut [u8]) -> Option<usize>
     ensures { Spelled s.now out.new (length out.old) (paired s.now (length out.old)) result }
 {
     let n = s.len() / 2;
-    if s.len() == 0 {
-        return Bytes::Not;
+    if n == 0 || s.len() != n * 2 || out.len() < n {
+        return None;
     }
-    if s.len() != n * 2 {
-        return Bytes::Not;
+    for i in 0..n {
+        let high = value_of(s[i * 2])?;
+        let low = value_of(s[i * 2 + 1])?;
+        out[i] = (high * 16 + low) as u8;
     }
-    if out.len() < n {
-        return Bytes::Not;
-    }
-    let mut i = 0;
-    while i < n {
-        let h = value_of(s[i * 2]);
-        let l = value_of(s[i * 2 + 1]);
-        if h >= 16 {
-            return Bytes::Not;
-        }
-        if l >= 16 {
-            return Bytes::Not;
-        }
-        out[i] = byte(h * 16 + l);
-        i += 1;
-    }
-    Bytes::Are(n)
+    Some(n)
 }
 
 // The bytes that a word spells go to the start of `out`: pairs of digits, or `-` for no byte.
-pub fn read_hex(s: &[u8], out: &mut [u8]) -> Bytes
+#[tactic(auto, using(crate::proofs::Words::dash_pointwise, crate::proofs::Pairing::no_byte_of_dash), unfolding(crate::specs::Hex::spelled))]
+pub fn read_hex(s: &[u8], out: &mut [u8]) -> Option<usize>
     ensures { Spelled s.now out.new (length out.old) (spelled s.now (length out.old)) result }
 {
-    if s.len() != 1 {
-        return read_pairs(s, out);
+    if s == b"-".as_slice() {
+        Some(0)
+    } else {
+        read_pairs(s, out)
     }
-    if s[0] != b'-' {
-        return read_pairs(s, out);
-    }
-    Bytes::Are(0)
 }

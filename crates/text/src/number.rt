@@ -1,77 +1,56 @@
-// Numbers read from text. A function for each base: a sum with a literal base is one that the search bounds.
-ghost use Rattle.std.specs.Prelude.{◌≡◌, ◌≤◌, length};
+// Numbers read from text.
+ghost use Rattle.std.specs.Prelude.{◌≡◌, ◌≤◌, ◌<◌, SomeIff};
 ghost use Rattle.text.specs.Number.{number, numeral};
+ghost use Rattle.text.specs.Digit.{digit};
 
 use crate::digit::value_of;
 
-#[derive(Clone, Copy)]
-pub enum Number {
-    Is(u64),
-    Not,
+// The value of a digit of the base.
+fn digit_of(base: u64, b: u8) -> Option<u64>
+    requires { base ≤ 16 }
+    ensures { SomeIff result (digit b < base) (digit b) }
+{
+    value_of(b).filter(|d| *d < base)
+}
+
+// The number below 2^64 that digits of the base spell.
+#[tactic(auto, using(crate::proofs::Numbers::number_start, crate::proofs::Numbers::number_bad, crate::proofs::Numbers::number_over, crate::proofs::Numbers::number_more, crate::proofs::Numbers::number_end, crate::proofs::Numbers::number_none))]
+fn read_in(base: u64, s: &[u8]) -> Option<u64>
+    requires { base ≤ 16 }
+    ensures { result ≡ number base s.now }
+{
+    if s.is_empty() {
+        return None;
+    }
+    let mut n: u64 = 0;
+    for b in s {
+        let d = digit_of(base, *b)?;
+        n = n.checked_mul(base)?.checked_add(d)?;
+    }
+    Some(n)
 }
 
 // The number below 2^64 that decimal digits spell.
-pub fn read_decimal(s: &[u8]) -> Number
+pub fn read_decimal(s: &[u8]) -> Option<u64>
     ensures { result ≡ number 10 s.now }
 {
-    if s.len() == 0 {
-        return Number::Not;
-    }
-    let mut n: u64 = 0;
-    let mut i = 0;
-    while i < s.len() {
-        let d = value_of(s[i]);
-        if d >= 10 {
-            return Number::Not;
-        }
-        if n > 1844674407370955161 {
-            return Number::Not;
-        }
-        let m = n * 10;
-        if d > 18446744073709551615 - m {
-            return Number::Not;
-        }
-        n = m + d;
-        i += 1;
-    }
-    Number::Is(n)
+    read_in(10, s)
 }
 
 // The number below 2^64 that hexadecimal digits spell.
-pub fn read_hexadecimal(s: &[u8]) -> Number
+pub fn read_hexadecimal(s: &[u8]) -> Option<u64>
     ensures { result ≡ number 16 s.now }
 {
-    if s.len() == 0 {
-        return Number::Not;
-    }
-    let mut n: u64 = 0;
-    let mut i = 0;
-    while i < s.len() {
-        let d = value_of(s[i]);
-        if d >= 16 {
-            return Number::Not;
-        }
-        if n > 1152921504606846975 {
-            return Number::Not;
-        }
-        n = n * 16 + d;
-        i += 1;
-    }
-    Number::Is(n)
+    read_in(16, s)
 }
 
 // A decimal number, or a hexadecimal one after 0x.
-pub fn read_number(s: &[u8]) -> Number
+#[tactic(auto, using(crate::proofs::Words::marked_pointwise), unfolding(crate::specs::Number::numeral))]
+pub fn read_number(s: &[u8]) -> Option<u64>
     ensures { result ≡ numeral s.now }
 {
-    if s.len() < 2 {
-        return read_decimal(s);
+    match s.strip_prefix(b"0x") {
+        Some(digits) => read_hexadecimal(digits),
+        None => read_decimal(s),
     }
-    if s[0] != b'0' {
-        return read_decimal(s);
-    }
-    if s[1] != b'x' {
-        return read_decimal(s);
-    }
-    read_hexadecimal(&s[2..])
 }

@@ -1,43 +1,107 @@
-// Text put at an index inside of a lent buffer: the index after it is inside too, so one piece follows another with nothing to prove.
-// An answer that is the buffer's length may be cut.
-ghost use Rattle.std.specs.Prelude.{◌≤◌, length};
+// A lent buffer that text is written to, one piece behind the other. What finds no room is left out, so a page that is full may be cut.
+ghost use Rattle.std.specs.Prelude.{◌≡◌, ◌≤◌, length};
 
-use crate::buffer::{put, put_decimal, put_hexadecimal, put_text};
-
-pub fn write_letter(out: &mut [u8], at: usize, b: u8) -> usize
-    requires { at ≤ length out.old }
-    ensures { (at ≤ result) × (result ≤ length out.old) }
-{
-    put(out, at, b)
+#[derive(Drop)]
+pub struct Page<'a> {
+    out: &'a mut [u8],
+    at: usize,
 }
 
-pub fn write_text(out: &mut [u8], at: usize, s: &[u8]) -> usize
-    requires { at ≤ length out.old }
-    ensures { (at ≤ result) × (result ≤ length out.old) }
-{
-    put_text(out, at, s)
+impl<'a> Page<'a> {
+    ghost use Rattle.std.specs.Prelude.{[], ◌∷◌, ◌++◌, take};
+    ghost use Rattle.text.specs.Buffer.{decimal, hexadecimal};
+    ghost use Rattle.text.specs.Page.{Wrote, Longer};
+
+    pub fn new(out: &'a mut [u8]) -> Page<'a>
+        ensures same_reference { result.out.ghost_name ≡ out.entry.ghost_name }
+        ensures same_bytes { result.out.now ≡ out.old }
+        ensures start { result.at ≡ 0 }
+    {
+        Page { out, at: 0 }
+    }
+
+    // A page on which what stands before `at` is written already.
+    pub fn behind(out: &'a mut [u8], at: usize) -> Page<'a>
+        ensures same_reference { result.out.ghost_name ≡ out.entry.ghost_name }
+        ensures same_bytes { result.out.now ≡ out.old }
+        ensures start { result.at ≡ at }
+    {
+        Page { out, at }
+    }
+
+    // The index behind what is written.
+    pub fn end(&self) -> usize
+        ensures { result ≡ self.now.at }
+    {
+        self.at
+    }
+
+    // What stands on the page so far, of what there is room for.
+    pub fn written(&self) -> &[u8]
+        ensures { result.now ≡ take self.now.at self.now.out.now }
+    {
+        &self.out[..self.at.min(self.out.len())]
+    }
+
+    #[tactic(auto, using(crate::proofs::Pages::written_one, crate::proofs::Pages::written_outside))]
+    pub fn letter(&mut self, b: u8)
+        ensures text { Wrote self.old (b ∷ []) self.new }
+        ensures longer { Longer self.old self.new }
+    {
+        if self.at < self.out.len() {
+            self.out[self.at] = b;
+            self.at += 1;
+        }
+    }
+
+    pub fn text(&mut self, s: &[u8])
+        ensures text { Wrote self.old s.now self.new }
+        ensures longer { Longer self.old self.new }
+    {
+        for b in s {
+            self.letter(*b);
+        }
+    }
+
+    pub fn decimal(&mut self, n: u64)
+        ensures text { Wrote self.old (decimal n) self.new }
+        ensures longer { Longer self.old self.new }
+    {
+        let mut digits = [0u8; 20];
+        let k = io::decimal(n, &mut digits);
+        self.text(&digits[..k]);
+    }
+
+    // In lower case and with no zero in front.
+    pub fn hexadecimal(&mut self, n: u64)
+        ensures text { Wrote self.old (hexadecimal n) self.new }
+        ensures longer { Longer self.old self.new }
+    {
+        let mut digits = [0u8; 16];
+        let k = io::hex(n, 0, &mut digits);
+        self.text(&digits[..k]);
+    }
+
+    // A number in decimal, with what comes before and after it.
+    #[tactic(auto, using(crate::proofs::Pages::pages))]
+    pub fn number(&mut self, before: &[u8], n: u64, after: &[u8])
+        ensures text { Wrote self.old (before.now ++ decimal n ++ after.now) self.new }
+        ensures longer { Longer self.old self.new }
+    {
+        self.text(before);
+        self.decimal(n);
+        self.text(after);
+    }
 }
 
-pub fn write_decimal(out: &mut [u8], at: usize, n: u64) -> usize
-    requires { at ≤ length out.old }
-    ensures { (at ≤ result) × (result ≤ length out.old) }
+// How many bytes at the start of `out` `write` writes. That the page is still one over `out` is not known of what `write` leaves, so its
+// end is bounded.
+pub fn fill<F: FnOnce(&mut Page)>(out: &mut [u8], write: F) -> usize
+    requires { F.IsAlwaysCallable write }
+    ensures { result ≤ length out.old }
 {
-    put_decimal(out, at, n)
-}
-
-pub fn write_hexadecimal(out: &mut [u8], at: usize, n: u64) -> usize
-    requires { at ≤ length out.old }
-    ensures { (at ≤ result) × (result ≤ length out.old) }
-{
-    put_hexadecimal(out, at, n)
-}
-
-// A number in decimal, with what comes before and after it.
-pub fn write_number(out: &mut [u8], at: usize, before: &[u8], n: u64, after: &[u8]) -> usize
-    requires { at ≤ length out.old }
-    ensures { (at ≤ result) × (result ≤ length out.old) }
-{
-    let a = write_text(out, at, before);
-    let b = write_decimal(out, a, n);
-    write_text(out, b, after)
+    let room = out.len();
+    let mut page = Page::new(out);
+    write(&mut page);
+    page.end().min(room)
 }

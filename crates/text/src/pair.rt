@@ -1,37 +1,17 @@
 // Two numbers read from one word, with a stroke between them.
 ghost use Rattle.std.specs.Prelude.{◌≡◌};
-ghost use Rattle.text.specs.Pair.{joined, pair};
+ghost use Rattle.text.specs.Pair.{pair};
 
-use crate::number::{Number, read_hexadecimal};
-use crate::scan::find;
-
-#[derive(Clone, Copy)]
-pub enum Pair {
-    Is { first: u64, second: u64 },
-    Not,
-}
-
-fn both(first: Number, second: Number) -> Pair
-    ensures { result ≡ joined first second }
-{
-    let Number::Is(first) = first else {
-        return Pair::Not;
-    };
-    let Number::Is(second) = second else {
-        return Pair::Not;
-    };
-    Pair::Is { first, second }
-}
+use crate::number::read_hexadecimal;
+use crate::scan::place_of;
 
 // The two numbers below 2^64 that hexadecimal digits spell before and after the first `/`.
-pub fn read_pair(s: &[u8]) -> Pair
+#[tactic(auto, using(crate::proofs::Pairs::no_stroke, crate::proofs::Pairs::no_first, crate::proofs::Pairs::no_second, crate::proofs::Pairs::both_read))]
+pub fn read_pair(s: &[u8]) -> Option<(u64, u64)>
     ensures { result ≡ pair s.now }
 {
-    let i = find(s, 0, b'/');
-    if i >= s.len() {
-        return Pair::Not;
-    }
-    let first = read_hexadecimal(&s[0..i]);
-    let second = read_hexadecimal(&s[i + 1..]);
-    both(first, second)
+    let stroke = place_of(s, b'/')?;
+    let first = read_hexadecimal(&s[..stroke])?;
+    let second = read_hexadecimal(&s[stroke + 1..])?;
+    Some((first, second))
 }

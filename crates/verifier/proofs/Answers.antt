@@ -4,6 +4,7 @@ use mathlib.Core.Path.{◌≡◌, refl, sym, ap, ◌∙◌}
 use mathlib.Core.Bool.{Bool, true, false, not, ◌||◌}
 use mathlib.Core.List.{List}
 use lib.ListN.{length}
+use Rattle.std.specs.Prelude.{Ok, Err}
 use lib.Dec.{eqb, ltb}
 use native.Mathlib.Omega.{arith}
 use borrow.Author.Tests.{lt-ltb, le-ltb, eqb-true, eqb-false, ltb-false}
@@ -15,8 +16,7 @@ use Rattle.analysis.specs.declared.Finding.TheVariants.{Accepted, Refused}
 use Rattle.analysis.specs.declared.Judged.{Judged}
 use Rattle.analysis.specs.Judged.{formed, on_paths, on_form, judged}
 use Rattle.analysis.specs.Paths.{connected}
-use Rattle.analysis.specs.declared.Answer.{Answer}
-use Rattle.analysis.specs.declared.Answer.TheVariants.{Judgement, ScratchTooSmall}
+use Rattle.analysis.specs.Answer.{Answer}
 use Rattle.waiting.specs.Layout.{words, block_words}
 use Rattle.verifier.specs.Sending.{Followed}
 use Rattle.verifier.specs.Answered.{is_accepted, is_orderly, passes_form, answered, Untouched, Answers}
@@ -28,7 +28,7 @@ true_is_not_false b p q = let z : ◌≡◌ {A = Bool} true false = sym p ∙ q 
 pub unchanged : (program : List ℕ) (R : ℕ) (m : List ℕ) → Untouched program R m m
 unchanged program R m = record { order = λ p. refl; paths = λ p. refl; small = λ p. refl }
 
-where_order_fails : (program : List ℕ) (R : ℕ) (m : List ℕ) (r : Answer) → is_orderly program R ≡ false → r ≡ Judgement (judged program R)
+where_order_fails : (program : List ℕ) (R : ℕ) (m : List ℕ) (r : Answer) → is_orderly program R ≡ false → r ≡ Ok (judged program R)
     → Answers program R m m r
 unfolding answered passes_form
 where_order_fails program R m r fails is = (
@@ -40,19 +40,19 @@ where_order_fails program R m r fails is = (
 )
 
 pub a_bad_length : (program : List ℕ) (R : ℕ) (m : List ℕ) (r : Answer) → bad_program (length program) ≡ true
-    → r ≡ Judgement (record { finding = Refused BadLength 0; work = 0 }) → Answers program R m m r
+    → r ≡ Ok (record { finding = Refused BadLength 0; work = 0 }) → Answers program R m m r
 unfolding is_orderly judged
 a_bad_length program R m r bad is = where_order_fails program R m r (rw bad) (rw bad is)
 
 pub a_long_record : (program : List ℕ) (R : ℕ) (m : List ℕ) (r : Answer) → bad_program (length program) ≡ false → 1024 < R
-    → r ≡ Judgement (record { finding = Refused LongRecord 0; work = 0 }) → Answers program R m m r
+    → r ≡ Ok (record { finding = Refused LongRecord 0; work = 0 }) → Answers program R m m r
 unfolding is_orderly judged bad_record
 a_long_record program R m r good long is =
     where_order_fails program R m r (rw (good, lt-ltb 1024 R long)) (rw (good, lt-ltb 1024 R long) is)
 
 pub a_test_that_fails : (program : List ℕ) (R : ℕ) (m : List ℕ) (f : Finding) (reason : Reason) (place : ℕ)
     → bad_program (length program) ≡ false → R ≤ 1024 → f ≡ formed program (length program / 8) 0 → f ≡ Refused reason place
-    → Answers program R m m (Judgement (record { finding = Refused reason place; work = place + 1 }))
+    → Answers program R m m (Ok (record { finding = Refused reason place; work = place + 1 }))
 unfolding is_orderly judged on_form bad_record is_accepted
 a_test_that_fails program R m f reason place good short tests is =
     where_order_fails program R m _ (rw (good, le-ltb 1024 R short, sym tests, is)) (rw (good, le-ltb 1024 R short, sym tests, is))
@@ -64,7 +64,7 @@ module _ (program : List ℕ) (R n : ℕ) (m : List ℕ) (good : bad_program (le
   unfolding is_orderly bad_record is_accepted
   orderly = rw (good, le-ltb 1024 R short, tests)
 
-  pub too_little_memory : length m < block_words * n → Answers program R m m (ScratchTooSmall (block_words * n))
+  pub too_little_memory : length m < block_words * n → Answers program R m m (Err (record { words = block_words * n }))
   unfolding answered words
   too_little_memory less = (
     rw (orderly, sym size, lt-ltb (length m) (block_words * n) less),
@@ -80,7 +80,7 @@ module _ (program : List ℕ) (R n : ℕ) (m : List ℕ) (good : bad_program (le
     is_enough = rw (sym size) (le-ltb (length m) (block_words * n) enough)
 
     pub dead_code : (reason : Reason) (place : ℕ) → g ≡ Refused reason place
-        → Answers program R m m (Judgement (record { finding = Refused reason place; work = n + (place + 1) }))
+        → Answers program R m m (Ok (record { finding = Refused reason place; work = n + (place + 1) }))
     unfolding answered passes_form judged on_form on_paths bad_record is_accepted
     dead_code reason place is = (
       rw (orderly, is_enough, good, le-ltb 1024 R short, size, tests, sym paths, is),
@@ -91,10 +91,10 @@ module _ (program : List ℕ) (R n : ℕ) (m : List ℕ) (good : bad_program (le
     )
 
     pub the_values_were_followed : (m' : List ℕ) (r : Judged) → g ≡ Accepted → Followed program R n r m m'
-        → Answers program R m m' (Judgement r)
+        → Answers program R m m' (Ok r)
     unfolding answered judged on_form on_paths bad_record is_accepted
     the_values_were_followed m' r is h = (
-      rw (orderly, is_enough, good, le-ltb 1024 R short, tests, sym paths, is) (ap Judgement h.found),
+      rw (orderly, is_enough, good, le-ltb 1024 R short, tests, sym paths, is) (ap Ok h.found),
       (
         record { holds = λ p q j. rw (sym size) (ap (λ w. w j) h.waits) },
         record {

@@ -1,6 +1,6 @@
 pub mod Answers
 pub mod Inspecting
-pub mod KindLaws
+pub mod ByKind
 pub mod Memory
 pub mod Outcomes
 pub mod Promise

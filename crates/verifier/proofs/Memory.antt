@@ -6,6 +6,7 @@ use mathlib.Core.Logic.{◌↔◌}
 use mathlib.Core.List.{List}
 use Prim.Native.Nat.{ℕ, ◌/◌, ◌<◌}
 use lib.ListN.{length}
+use Rattle.std.specs.Prelude.{Ok, Err}
 use lib.Dec.{ltb}
 use borrow.Author.Tests.{ltb-true, lt-ltb, not-true}
 use Rattle.machine.specs.Machine.{bad_program, bad_record}
@@ -14,8 +15,7 @@ use Rattle.analysis.specs.declared.Finding.TheVariants.{Accepted, Refused}
 use Rattle.analysis.specs.Form.{Orderly}
 use Rattle.analysis.specs.Judged.{formed, judged}
 use Rattle.analysis.proofs.FormLaws.{passes_orderly, orderly_passes}
-use Rattle.analysis.specs.declared.Answer.{Answer}
-use Rattle.analysis.specs.declared.Answer.TheVariants.{Judgement, ScratchTooSmall}
+use Rattle.analysis.specs.Answer.{Answer}
 use Rattle.waiting.specs.Layout.{words}
 use Rattle.verifier.specs.Answered.{is_accepted, is_orderly, answered}
 
@@ -38,24 +38,24 @@ module _ (program : List ℕ) (R : ℕ) where
   orderly_is h = rw (h.good_length, h.good_record, orderly_passes program R h) refl
 
 words_in : Answer → ℕ
-words_in (Judgement j) = 0
-words_in (ScratchTooSmall w) = w
+words_in (Ok j) = 0
+words_in (Err e) = e.words
 
 abbrev IsTooSmall : Answer → Type 0
-IsTooSmall (Judgement j) = ⊥
-IsTooSmall (ScratchTooSmall w) = Unit {0}
+IsTooSmall (Ok j) = ⊥
+IsTooSmall (Err e) = Unit {0}
 
 pub too_small_iff : (program : List ℕ) (R size w : ℕ)
-    → (answered program R size ≡ ScratchTooSmall w)
+    → (answered program R size ≡ Err (record { words = w }))
     ↔ (Orderly program R × (w ≡ words (length program / 8)) × (size < words (length program / 8)))
 unfolding answered words_in
 too_small_iff program R size w = (
   λ e. go (is_orderly program R) refl (ltb size (words (length program / 8))) refl e,
-  λ h. rw (orderly_is program R h.0, lt-ltb _ _ h.2) (ap ScratchTooSmall (sym h.1)),
+  λ h. rw (orderly_is program R h.0, lt-ltb _ _ h.2) (ap (λ (w : ℕ). Err (record { words = w })) (sym h.1)),
 )
   where
     go : (a : Bool) → is_orderly program R ≡ a → (b : Bool) → ltb size (words (length program / 8)) ≡ b
-        → cond (a && b) (ScratchTooSmall (words (length program / 8))) (Judgement (judged program R)) ≡ ScratchTooSmall w
+        → cond {A = Answer} (a && b) (Err (record { words = words (length program / 8) })) (Ok (judged program R)) ≡ Err (record { words = w })
         → Orderly program R × (w ≡ words (length program / 8)) × (size < words (length program / 8))
     go true p true q e = (is_orderly_lem program R p, sym (ap words_in e), ltb-true _ _ q)
     go true p false q e = absurd (subst IsTooSmall (sym e) tt)

@@ -3,8 +3,8 @@ use mathlib.Core.Path.{◌≡◌, refl, sym, ap, subst, ◌∙◌}
 use mathlib.Core.Logic.{◌⊎◌, inl, inr}
 use mathlib.Core.Bool.{Bool, true, false, cond}
 use mathlib.Core.List.{List}
-use mathlib.Core.Option.{none, some}
 use Prim.Native.Nat.{ℕ, ◌+◌, ◌^◌, ◌<◌}
+use Rattle.std.specs.Prelude.{Option, Some, None}
 use Rattle.word.specs.declared.Operation.{Operation}
 use Rattle.word.specs.declared.Operation.TheVariants.{Add, Sub, Mov}
 use Rattle.word.specs.declared.Comparison.{Comparison}
@@ -15,8 +15,7 @@ use Rattle.machine.specs.declared.instruction.Operand.{Operand}
 use Rattle.machine.specs.declared.instruction.Operand.TheVariants.{Immediate, Register}
 use Rattle.machine.specs.Machine.{bits}
 use Rattle.number.specs.declared.Number.{Number}
-use Rattle.number.specs.declared.Refined.{Refined}
-use Rattle.number.specs.declared.Refined.TheVariants.{Excluded, Possible}
+use Rattle.number.specs.Refined.{Refined}
 use Rattle.number.specs.Sharpen.{exact}
 use Rattle.number.specs.Computed.{computed}
 use Rattle.number.proofs.Computing.{computed_exact}
@@ -30,21 +29,13 @@ use Rattle.analysis.specs.Judged.{Waiting, Progress, halted, onward, having, wit
 use Rattle.analysis.proofs.ExactEffects.{set_get}
 use Rattle.analysis.proofs.Roles.{by_role}
 use Rattle.analysis.proofs.Sound.{wide}
-use Rattle.verifier.specs.declared.Step.{Step}
 use Rattle.waiting.specs.declared.value.Held.{Held}
-use Rattle.waiting.specs.declared.value.Single.{Single}
-use Rattle.waiting.specs.declared.value.Single.TheVariants as single
-use Rattle.waiting.specs.declared.value.Singles.{Singles}
-use Rattle.waiting.specs.declared.value.Singles.TheVariants as singles
-use Rattle.waiting.specs.State.{held_in, facts_at, IsSingle, AreSingle}
+use Rattle.waiting.specs.State.{held_in, facts_at, AreSingle}
 use Rattle.waiting.specs.Store.{waiting_in}
-use Rattle.verifier.specs.Sending.{Sent}
+use Rattle.verifier.specs.Sending.{Step, Sent}
 use Rattle.waiting.specs.Layout.{state_of}
 
-pub one_is_told : {r : Single} {u : Value} (x : ℕ) → r ≡ single.One x → IsSingle r u → u ≡ Plain (exact x)
-one_is_told {r} {u} x e h = subst (λ s. IsSingle s u) e h
-
-pub both_are_told : {r : Singles} {u v : Value} (x y : ℕ) → r ≡ singles.Both x y → AreSingle r u v → (u ≡ Plain (exact x)) × (v ≡ Plain (exact y))
+pub both_are_told : {r : Option (ℕ × ℕ)} {u v : Value} (x y : ℕ) → r ≡ Some (x, y) → AreSingle r u v → (u ≡ Plain (exact x)) × (v ≡ Plain (exact y))
 both_are_told {r} {u} {v} x y e h = subst (λ s. AreSingle s u v) e h
 
 -- ---- what is calculated of two
@@ -77,18 +68,18 @@ unfolding with_operand operand_of
 no_operand_is_changed a (Immediate n) y e = refl
 no_operand_is_changed a (Register r) y e = nothing_is_changed a r y e
 
-no_second_way : (n j : ℕ) (x : Progress) → and_then x (send n j none) ≡ x
+no_second_way : (n j : ℕ) (x : Progress) → and_then x (send n j None) ≡ x
 unfolding and_then send
 no_second_way n j (halted reason p work) = refl
 no_second_way n j (onward p work) = refl
 
 module _ (n i work : ℕ) (p : Waiting) (a : Facts) (w : Width) (c : Comparison) (d : ℕ) (s : Operand) (target x y : ℕ) (is_x : value_of a d ≡ Plain (exact x))
     (is_y : operand_of a s ≡ Plain (exact y)) (hx : x < 2 ^ 64) (hy : y < 2 ^ 64) where
-  goes_as_it_is : (way : Refined) → way ≡ Possible (exact x) (exact y) → along a d s way ≡ some a
+  goes_as_it_is : (way : Refined) → way ≡ Some (exact x, exact y) → along a d s way ≡ Some a
   unfolding along
   goes_as_it_is way e = rw (e, nothing_is_changed a d x is_x, no_operand_is_changed a s y is_y)
 
-  does_not_go : (way : Refined) → way ≡ Excluded → along a d s way ≡ none
+  does_not_go : (way : Refined) → way ≡ None → along a d s way ≡ None
   unfolding along
   does_not_go way e = rw e
 
@@ -100,7 +91,7 @@ module _ (n i work : ℕ) (p : Waiting) (a : Facts) (w : Width) (c : Comparison)
 
   a_decided_jump : (b : Bool) → b ≡ compare (bits w) c x y
       → distribute n i p work (apply a (reading_both (value_of a d) (operand_of a s) (fork w c d s target (value_of a d) (operand_of a s))))
-      ≡ send n (cond b target (i + 1)) (some a) p work
+      ≡ send n (cond b target (i + 1)) (Some a) p work
   unfolding send and_then
   a_decided_jump true e =
       ways _ _ refl refl
@@ -108,12 +99,12 @@ module _ (n i work : ℕ) (p : Waiting) (a : Facts) (w : Width) (c : Comparison)
   a_decided_jump false e =
       ways _ _ refl refl
       ∙ rw (goes_as_it_is _ (told_exact w c false x y hx hy (sym e)), does_not_go _ (told_exact_excluded w c true x y hx hy (sym e)))
-      (no_second_way n target (send n (i + 1) (some a) p work))
+      (no_second_way n target (send n (i + 1) (Some a) p work))
 
 -- the jump's own statement, where the state is that of index i
 pub a_decided_jump_is_sent : (n i work : ℕ) (m m' : List ℕ) (w : Width) (c : Comparison) (d : ℕ) (s : Operand) (target x y : ℕ) (b : Bool) (r : Step)
     → (value_of (facts_at m (state_of i)) d ≡ Plain (exact x)) × (operand_of (facts_at m (state_of i)) s ≡ Plain (exact y)) → b ≡ compare (bits w) c x y
-    → Sent (send n (cond b target (i + 1)) (some (facts_at m (state_of i))) (waiting_in n m) work) n i r m m' → x < 2 ^ 64 → y < 2 ^ 64
+    → Sent (send n (cond b target (i + 1)) (Some (facts_at m (state_of i))) (waiting_in n m) work) n i r m m' → x < 2 ^ 64 → y < 2 ^ 64
     → Sent (distribute n i (waiting_in n m) work (apply (facts_at m (state_of i)) (reading_both (value_of (facts_at m (state_of i)) d) (operand_of (facts_at m (state_of i)) s)
     (fork w c d s target (value_of (facts_at m (state_of i)) d) (operand_of (facts_at m (state_of i)) s))))) n i r m m'
 a_decided_jump_is_sent n i work m m' w c d s target x y b r known goes sent hx hy =

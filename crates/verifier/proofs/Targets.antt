@@ -3,7 +3,6 @@ use Prim.Native.Nat.{ℕ, zero, suc, ◌+◌, ◌-◌, ◌*◌, ◌/◌, ◌%◌
 use mathlib.Core.Path.{◌≡◌, refl, sym, ap, ◌∙◌, subst}
 use mathlib.Core.Bool.{Bool, true, false, cond, not, ◌&&◌, ◌||◌, true≢false}
 use mathlib.Core.Logic.{◌⊎◌, inl, inr}
-use mathlib.Core.Option.{Option, none, some}
 use mathlib.Core.List.{List, [], ◌∷◌}
 use lib.ListN.{length, get_or, set, replicate, length-set}
 use lib.Seq.{get_or-set_same, get_or-set_other}
@@ -13,6 +12,7 @@ use lib.Bits.{bit_or}
 use native.Mathlib.Nat.{sub-zero}
 use native.Mathlib.Omega.{arith}
 use borrow.Author.Tests.{eqb-true, eqb-false, eq-eqb, ne_eqb, leb-false}
+use Rattle.std.specs.Prelude.{Option, Some, None}
 use Rattle.word.specs.Word.{bit, extend}
 use Rattle.word.proofs.Bit.{bit_lt, bit_or_lem, bit_zero, bit_pow, bit_pow_other}
 use Rattle.machine.specs.declared.instruction.Width.{Width}
@@ -21,7 +21,8 @@ use Rattle.machine.specs.declared.instruction.Operand.{Operand}
 use Rattle.machine.specs.declared.instruction.Operand.TheVariants.{Immediate, Register}
 use Rattle.machine.specs.declared.instruction.Instruction.{Instruction}
 use Rattle.machine.specs.declared.instruction.Instruction.TheVariants.{NoInstruction}
-use Rattle.machine.specs.Instruction.{Fields, fields, only, Line, ◌means◌, lookup, with_operand, operations, arithmetic, comparisons, jump, loads, stores_of_imm, stores_of_src, load, store_of_imm, store_of_src, by_class, meaning, decode}
+use Rattle.machine.specs.declared.instruction.Fields.{Fields}
+use Rattle.machine.specs.Instruction.{fields, only, Line, ◌means◌, lookup, with_operand, operations, arithmetic, comparisons, jump, loads, stores_of_imm, stores_of_src, load, store_of_imm, store_of_src, by_class, meaning, decode}
 use Rattle.machine.specs.Machine.{is_no_instruction}
 use Rattle.analysis.specs.declared.Reason.TheVariants.{DeadCode}
 use Rattle.analysis.specs.declared.Finding.{Finding}
@@ -77,27 +78,27 @@ module _ {on : Bool} {off : Option ℕ} where
       shape_either (eqb (f.opcode / 8 % 2) 0) (λ e. shape_only (eqb f.src 0) (h (Immediate (extend 32 f.imm)))) (λ e. shape_only (eqb f.imm 0) (h (Register f.src)))
 
 module _ (f : Fields) where
-  arithmetic_goes_on : (w : Width) → Shaped true none (arithmetic w f)
+  arithmetic_goes_on : (w : Width) → Shaped true None (arithmetic w f)
   unfolding arithmetic goes_on may_be_last off_of
   arithmetic_goes_on w =
       shape_only (eqb f.off 0) (shape_either (eqb (f.opcode / 16) 8)
       (λ e. shape_only (eqb (f.opcode / 8 % 2) 0 && eqb f.src 0 && eqb f.imm 0) (record { shape = λ i. (refl, refl) }))
       (λ e. shape_line (f.opcode / 16) operations _ (λ op. shape_operand f _ (λ s. record { shape = λ i. (refl, refl) }))))
 
-  load_goes_on : Shaped true none (load f)
+  load_goes_on : Shaped true None (load f)
   unfolding load goes_on may_be_last off_of
   load_goes_on = shape_line f.opcode loads _ (λ z. shape_only (eqb f.imm 0) (record { shape = λ i. (refl, refl) }))
 
-  store_of_imm_goes_on : Shaped true none (store_of_imm f)
+  store_of_imm_goes_on : Shaped true None (store_of_imm f)
   unfolding store_of_imm goes_on may_be_last off_of
   store_of_imm_goes_on = shape_line f.opcode stores_of_imm _ (λ z. shape_only (eqb f.src 0) (record { shape = λ i. (refl, refl) }))
 
-  store_of_src_goes_on : Shaped true none (store_of_src f)
+  store_of_src_goes_on : Shaped true None (store_of_src f)
   unfolding store_of_src goes_on may_be_last off_of
   store_of_src_goes_on = shape_line f.opcode stores_of_src _ (λ z. shape_only (eqb f.imm 0) (record { shape = λ i. (refl, refl) }))
 
   -- an instruction of a class other than 5 and 6 goes on, and is no jump
-  other_shape : (not (eqb (f.opcode % 8) 5) && not (eqb (f.opcode % 8) 6)) ≡ true → Shaped true none (meaning f)
+  other_shape : (not (eqb (f.opcode % 8) 5) && not (eqb (f.opcode % 8) 6)) ≡ true → Shaped true None (meaning f)
   unfolding meaning by_class
   other_shape neither =
       shape_only (leb f.dst 10 && leb f.src 10)
@@ -119,7 +120,7 @@ module _ (f : Fields) where
       of_class (inl e) = rw (eqb-true (f.opcode % 8) 5 e) (h Long)
       of_class (inr e) = rw (eqb-true (f.opcode % 8) 6 e) (h Short)
 
-  exit_shape : f.opcode ≡ 0x95 → Shaped false none (meaning f)
+  exit_shape : f.opcode ≡ 0x95 → Shaped false None (meaning f)
   unfolding jump goes_on may_be_last off_of
   exit_shape is =
       jump_class_lem (rw is refl) (λ w. shape_either (eqb f.opcode 0x05) (λ e. absurd (let z : f.opcode ≡ 5 = eqb-true _ _ e in omega arith))
@@ -128,7 +129,7 @@ module _ (f : Fields) where
       (λ e. absurd (eqb-false _ _ e is))))
 
   -- any other of these classes jumps, and goes on unless it is JA
-  jump_shape : (not (eqb (f.opcode % 8) 5) && not (eqb (f.opcode % 8) 6)) ≡ false → (f.opcode ≡ 0x95 → ⊥) → Shaped (not (eqb f.opcode 0x05)) (some (extend 16 f.off)) (meaning f)
+  jump_shape : (not (eqb (f.opcode % 8) 5) && not (eqb (f.opcode % 8) 6)) ≡ false → (f.opcode ≡ 0x95 → ⊥) → Shaped (not (eqb f.opcode 0x05)) (Some (extend 16 f.off)) (meaning f)
   unfolding jump goes_on may_be_last off_of
   jump_shape jumps no_exit =
       jump_class_lem jumps (λ w. shape_either (eqb f.opcode 0x05)
@@ -185,9 +186,9 @@ module _ (program : List ℕ) (n i : ℕ) (f : Fields) (is : fields program (i *
   shaped on off h = (subst (λ g. Shaped on off (meaning g)) (sym is) h).shape fine.instructs
 
   module _ (m : List ℕ) (size : length m ≡ 64) where
-    nothing_is_marked : (on : Bool) → Shaped on none (meaning f) → Left i (instruction program i) on m m
+    nothing_is_marked : (on : Bool) → Shaped on None (meaning f) → Left i (instruction program i) on m m
     unfolding aimed
-    nothing_is_marked on h = let s = shaped on none h in record { size = size; on = sym s.0; targets = rw s.1 refl }
+    nothing_is_marked on h = let s = shaped on None h in record { size = size; on = sym s.0; targets = rw s.1 refl }
 
     pub no_jump : (not (eqb (f.opcode % 8) 5) && not (eqb (f.opcode % 8) 6)) ≡ true → Left i (instruction program i) true m m
     no_jump neither = nothing_is_marked true (other_shape f neither)

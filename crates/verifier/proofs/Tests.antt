@@ -2,12 +2,12 @@
 use Prim.Native.Nat.{ℕ, zero, suc, ◌+◌, ◌-◌, ◌*◌, ◌/◌, ◌%◌, ◌^◌, ◌≤◌, ◌<◌}
 use mathlib.Core.Path.{◌≡◌, refl, sym, ap, ap₂, ◌∙◌, subst}
 use mathlib.Core.Bool.{Bool, true, false, cond, ◌&&◌, ◌||◌}
-use mathlib.Core.Option.{Option, none, some}
 use mathlib.Core.List.{List, [], ◌∷◌}
 use lib.ListN.{length}
 use lib.Dec.{eqb, leb}
 use native.Mathlib.Omega.{arith}
 use borrow.Author.Tests.{le-leb, ne_eqb, leb-false}
+use Rattle.std.specs.Prelude.{Option, Some, None, Result, Ok, Err}
 use Rattle.word.specs.declared.Comparison.{Comparison}
 use Rattle.word.specs.declared.Operation.{Operation}
 use Rattle.machine.specs.declared.instruction.Width.{Width}
@@ -18,7 +18,8 @@ use Rattle.machine.specs.declared.instruction.Operand.TheVariants.{Immediate, Re
 use Rattle.machine.specs.declared.instruction.Instruction.{Instruction}
 use Rattle.machine.specs.declared.instruction.Instruction.TheVariants.{Alu, Neg, Jump, Always, Exit, Load, Store, NoInstruction}
 use Rattle.word.specs.Word.{extend}
-use Rattle.machine.specs.Instruction.{Fields, fields, only, Line, ◌means◌, lookup, with_operand, operations, arithmetic, comparisons, jump, loads, stores_of_imm, stores_of_src, load, store_of_imm, store_of_src, by_class, meaning, decode, writes}
+use Rattle.machine.specs.declared.instruction.Fields.{Fields}
+use Rattle.machine.specs.Instruction.{fields, only, Line, ◌means◌, lookup, with_operand, operations, arithmetic, comparisons, jump, loads, stores_of_imm, stores_of_src, load, store_of_imm, store_of_src, by_class, meaning, decode, writes}
 use Rattle.machine.specs.Machine.{is_no_instruction, names10}
 use Rattle.analysis.specs.declared.Reason.{Reason}
 use Rattle.analysis.specs.declared.Reason.TheVariants.{NoCode, WritesR10, JumpsBack, JumpsOut}
@@ -26,17 +27,15 @@ use Rattle.analysis.specs.declared.Finding.{Finding}
 use Rattle.analysis.specs.declared.Finding.TheVariants.{Accepted, Refused}
 use Rattle.analysis.specs.Form.{instruction, off_of, goes_back, goes_out, may_be_last, failing}
 use Rattle.analysis.specs.Judged.{or_else, formed}
-use Rattle.verifier.specs.declared.form.Tested.{Tested}
-use Rattle.verifier.specs.declared.form.Tested.TheVariants.{Good, Bad}
 use Rattle.verifier.specs.Form.{told, when_last, when_writing, when_jumping, coded, has_line, with_operand_tests, arithmetic_tests, jump_tests, load_tests, store_of_imm_tests, store_of_src_tests, class_tests, field_tests}
 
 -- ---- which tests an instruction is put to
 
-last_or_not : (b : Bool) → cond (b && true) (some JumpsOut) none ≡ cond b (some JumpsOut) none
+last_or_not : (b : Bool) → cond (b && true) (Some JumpsOut) None ≡ cond b (Some JumpsOut) None
 last_or_not true = refl
 last_or_not false = refl
 
-writes_or_not : (a b : Bool) → cond (a || false) (some WritesR10) (cond (b && true) (some JumpsOut) none) ≡ cond a (some WritesR10) (cond b (some JumpsOut) none)
+writes_or_not : (a b : Bool) → cond (a || false) (Some WritesR10) (cond (b && true) (Some JumpsOut) None) ≡ cond a (Some WritesR10) (cond b (Some JumpsOut) None)
 writes_or_not true b = refl
 writes_or_not false b = last_or_not b
 
@@ -57,19 +56,19 @@ module _ (n i : ℕ) where
   unfolding failing is_no_instruction names10 writes goes_back off_of goes_out may_be_last
   tests_of_a_store z d off s = sym (last_or_not (eqb (i + 1) n))
 
-  pub tests_of_an_exit : none ≡ failing n i Exit
+  pub tests_of_an_exit : None ≡ failing n i Exit
   unfolding failing is_no_instruction names10 writes goes_back off_of goes_out may_be_last
   tests_of_an_exit = never (eqb (i + 1) n)
     where
-      never : (b : Bool) → none ≡ cond (b && false) (some JumpsOut) none
+      never : (b : Bool) → None ≡ cond (b && false) (Some JumpsOut) None
       never true = refl
       never false = refl
 
   pub tests_of_ja : (off : ℕ) → when_jumping n i off ≡ failing n i (Always off)
   unfolding failing is_no_instruction names10 writes goes_back off_of goes_out may_be_last
-  tests_of_ja off = ap (λ x. cond (leb (2 ^ 63) off) (some JumpsBack) x) (never (leb n (i + 1 + off)) (eqb (i + 1) n))
+  tests_of_ja off = ap (λ x. cond (leb (2 ^ 63) off) (Some JumpsBack) x) (never (leb n (i + 1 + off)) (eqb (i + 1) n))
     where
-      never : (a b : Bool) → cond a (some JumpsOut) none ≡ cond (a || (b && false)) (some JumpsOut) none
+      never : (a b : Bool) → cond a (Some JumpsOut) None ≡ cond (a || (b && false)) (Some JumpsOut) None
       never true b = refl
       never false true = refl
       never false false = refl
@@ -77,9 +76,9 @@ module _ (n i : ℕ) where
   -- a target within the program has an instruction before it
   pub tests_of_a_jump : (w : Width) (c : Comparison) (d : ℕ) (s : Operand) (off : ℕ) → when_jumping n i off ≡ failing n i (Jump w c d s off)
   unfolding failing is_no_instruction names10 writes goes_back off_of goes_out may_be_last
-  tests_of_a_jump w c d s off = ap (λ x. cond (leb (2 ^ 63) off) (some JumpsBack) x) (never (leb n (i + 1 + off)) refl)
+  tests_of_a_jump w c d s off = ap (λ x. cond (leb (2 ^ 63) off) (Some JumpsBack) x) (never (leb n (i + 1 + off)) refl)
     where
-      never : (a : Bool) → leb n (i + 1 + off) ≡ a → cond a (some JumpsOut) none ≡ cond (a || (eqb (i + 1) n && true)) (some JumpsOut) none
+      never : (a : Bool) → leb n (i + 1 + off) ≡ a → cond a (Some JumpsOut) None ≡ cond (a || (eqb (i + 1) n && true)) (Some JumpsOut) None
       never true e = refl
       never false e = let q : i + 1 + off < n = leb-false _ _ e in rw (ne_eqb (i + 1) n (λ z. omega arith))
 
@@ -102,16 +101,16 @@ module _ (n i : ℕ) where
   tests_of_a_line code [] found v h = refl
   tests_of_a_line code ((c means a) ∷ lines) found v h = this_line (eqb code c) (tests_of_a_line code lines found v h)
     where
-      found_here : (x : Bool) → cond (x || true) v (some NoCode) ≡ v
+      found_here : (x : Bool) → cond (x || true) v (Some NoCode) ≡ v
       found_here true = refl
       found_here false = refl
 
-      found_later : (x : Bool) → cond (x || false) v (some NoCode) ≡ cond x v (some NoCode)
+      found_later : (x : Bool) → cond (x || false) v (Some NoCode) ≡ cond x v (Some NoCode)
       found_later true = refl
       found_later false = refl
 
-      this_line : (b : Bool) → cond (has_line code lines) v (some NoCode) ≡ failing n i (lookup code lines found)
-          → cond (has_line code lines || b) v (some NoCode) ≡ failing n i (cond b (found a) (lookup code lines found))
+      this_line : (b : Bool) → cond (has_line code lines) v (Some NoCode) ≡ failing n i (lookup code lines found)
+          → cond (has_line code lines || b) v (Some NoCode) ≡ failing n i (cond b (found a) (lookup code lines found))
       this_line true later = found_here (has_line code lines) ∙ h a
       this_line false later = found_later (has_line code lines) ∙ later
 
@@ -180,7 +179,7 @@ module _ (n i : ℕ) where
       (either_class (eqb (f.opcode % 8) 5) (eqb (f.opcode % 8) 6) _ _ _ _ _ (jumps_by_fields Long f) (jumps_by_fields Short f)
       (ap₂ (cond (eqb (f.opcode % 8) 1)) (loads_by_fields f)
       (ap₂ (cond (eqb (f.opcode % 8) 2)) (stores_of_imm_by_fields f)
-      (ap (λ x. cond (eqb (f.opcode % 8) 3) x (some NoCode)) (stores_of_src_by_fields f) ∙ one_of_two (eqb (f.opcode % 8) 3) (store_of_src f) NoInstruction)
+      (ap (λ x. cond (eqb (f.opcode % 8) 3) x (Some NoCode)) (stores_of_src_by_fields f) ∙ one_of_two (eqb (f.opcode % 8) 3) (store_of_src f) NoInstruction)
       ∙ one_of_two (eqb (f.opcode % 8) 2) _ _)
       ∙ one_of_two (eqb (f.opcode % 8) 1) _ _))
 
@@ -207,16 +206,16 @@ the_tests_at_an_index program n i f x size is e =
 one_less : (n i : ℕ) → i < n → n - i ≡ suc (n - (i + 1))
 one_less n i l = omega arith
 
-module _ (program : List ℕ) (n i : ℕ) (t : Tested) (whole : Finding) (l : i < n) (tests : told t ≡ failing (length program / 8) i (instruction program i))
+module _ (program : List ℕ) (n i : ℕ) (t : Result (Unit {0}) Reason) (whole : Finding) (l : i < n) (tests : told t ≡ failing (length program / 8) i (instruction program i))
     (left : formed program (n - i) i ≡ whole) where
   rest : formed program (suc (n - (i + 1))) i ≡ whole
   rest = ap (λ k. formed program k i) (sym (one_less n i l)) ∙ left
 
-  pub the_tests_go_on : t ≡ Good → formed program (n - (i + 1)) (i + 1) ≡ whole
+  pub the_tests_go_on : t ≡ Ok tt → formed program (n - (i + 1)) (i + 1) ≡ whole
   unfolding formed or_else told
   the_tests_go_on good = ap (λ o. or_else i o (formed program (n - (i + 1)) (i + 1))) (sym (ap told good) ∙ tests) ∙ rest
 
-  pub a_test_fails : (reason : Reason) → t ≡ Bad reason → Refused reason i ≡ whole
+  pub a_test_fails : (reason : Reason) → t ≡ Err reason → Refused reason i ≡ whole
   unfolding formed or_else told
   a_test_fails reason bad = ap (λ o. or_else i o (formed program (n - (i + 1)) (i + 1))) (sym (ap told bad) ∙ tests) ∙ rest
 
@@ -227,8 +226,8 @@ the_tests_end program n i whole l h = subst (λ k. formed program k i ≡ whole)
 this_or_later : (o : Option Reason) (i k : ℕ) (more : Finding) (reason : Reason) (place : ℕ) → (more ≡ Refused reason place → place < i + 1 + k)
     → or_else i o more ≡ Refused reason place → place < i + suc k
 unfolding or_else
-this_or_later none i k more reason place later e = let q = later e in omega arith
-this_or_later (some found) i k more reason place later e = let z : i ≡ place = cc in omega arith
+this_or_later None i k more reason place later e = let q = later e in omega arith
+this_or_later (Some found) i k more reason place later e = let z : i ≡ place = cc in omega arith
 
 pub the_place_that_is_refused : (program : List ℕ) (k i : ℕ) (reason : Reason) (place : ℕ) → formed program k i ≡ Refused reason place → place < i + k
 unfolding formed

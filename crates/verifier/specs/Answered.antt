@@ -1,14 +1,13 @@
 -- The verifier's answer: what is judged, but for scratch memory that is too small, which is answered after the tests with the reasons
 -- 1 to 6 and before that for dead code and any test on values.
-use Rattle.std.specs.Prelude.{◌≡◌, Bool, true, false, cond, not, ◌&&◌, List, ℕ, ◌/◌, length, ltb}
+use Rattle.std.specs.Prelude.{Ok, Err, ◌≡◌, Bool, true, false, cond, not, ◌&&◌, List, ℕ, ◌/◌, length, ltb}
 use Rattle.machine.specs.Machine.{bad_program, bad_record}
 use Rattle.analysis.specs.declared.Finding.{Finding}
 use Rattle.analysis.specs.declared.Finding.TheVariants.{Accepted, Refused}
 use Rattle.analysis.specs.Paths.{connected}
 use Rattle.analysis.specs.Judged.{formed, followed, judged}
 use Rattle.analysis.specs.Promise.{Promise}
-use Rattle.analysis.specs.declared.Answer.{Answer}
-use Rattle.analysis.specs.declared.Answer.TheVariants.{Judgement, ScratchTooSmall}
+use Rattle.analysis.specs.Answer.{Answer}
 use Rattle.waiting.specs.Layout.{words}
 use Rattle.waiting.specs.Store.{waiting_in}
 
@@ -26,8 +25,8 @@ passes_form program R = is_orderly program R && is_accepted (connected program)
 
 unfoldable pub answered : List ℕ → ℕ → ℕ → Answer
 answered program R size =
-    cond (is_orderly program R && ltb size (words (length program / 8))) (ScratchTooSmall (words (length program / 8)))
-    (Judgement (judged program R))
+    cond (is_orderly program R && ltb size (words (length program / 8))) (Err (record { words = words (length program / 8) }))
+    (Ok (judged program R))
 
 -- where the values were followed, scratch memory holds what waits at each index
 pub record Annotates (program : List ℕ) (R size : ℕ) (after : List ℕ) : Type 0 where
@@ -48,5 +47,5 @@ Answers program R m m' r = (r ≡ answered program R (length m)) × (Annotates p
 
 -- what is judged is promised all that `Promise` has; that scratch memory is too small promises nothing
 abbrev pub Promises : List ℕ → ℕ → Answer → Type 0
-Promises program R (Judgement j) = Promise program R j
-Promises program R (ScratchTooSmall w) = Unit {0}
+Promises program R (Ok j) = Promise program R j
+Promises program R (Err w) = Unit {0}

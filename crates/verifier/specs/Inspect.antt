@@ -1,19 +1,16 @@
--- What is known at an index: of a register there, and of what the instruction does.
-use Rattle.std.proofs.Math.Option.{Option, none, some}
-use Rattle.std.specs.Prelude.{ℕ}
+-- What is known at an index: of a register there, and of what the instruction does. None where no path comes to it.
+use Rattle.std.specs.Prelude.{Option, Some, None, ℕ}
 use Rattle.machine.specs.declared.instruction.Instruction.{Instruction}
+use Rattle.analysis.specs.declared.Value.{Value}
+use Rattle.analysis.specs.declared.Effect.{Effect}
 use Rattle.analysis.specs.Values.{Facts, value_of}
 use Rattle.analysis.specs.Effects.{effect}
-use Rattle.verifier.specs.declared.inspect.Known.{Known}
-use Rattle.verifier.specs.declared.inspect.Known.TheVariants.{Unreached, Has}
-use Rattle.verifier.specs.declared.inspect.Deed.{Deed}
-use Rattle.verifier.specs.declared.inspect.Deed.TheVariants.{Nothing, Does}
 
-unfoldable pub known_of : Option Facts → ℕ → Known
-known_of none r = Unreached
-known_of (some a) r = Has (value_of a r)
+unfoldable pub known_of : Option Facts → ℕ → Option Value
+known_of None r = None
+known_of (Some a) r = Some (value_of a r)
 
 -- for a record of R bytes
-unfoldable pub deed_of : ℕ → ℕ → Option Facts → Instruction → Deed
-deed_of R i none ins = Nothing
-deed_of R i (some a) ins = Does (effect R i a ins)
+unfoldable pub deed_of : ℕ → ℕ → Option Facts → Instruction → Option Effect
+deed_of R i None ins = None
+deed_of R i (Some a) ins = Some (effect R i a ins)

@@ -1,32 +1,22 @@
--- What an instruction that is no jump does, in words: which effect an outcome stands for, and the kinds that values must have.
-use Rattle.std.specs.Prelude.{cond, ◌&&◌, ◌||◌, ℕ, eqb}
+-- What an instruction that is no jump does, as routines answer it: which effect an answer stands for.
+use Rattle.std.specs.Prelude.{Bool, true, false, cond, ◌||◌, Result, Ok, Err}
 use Rattle.machine.specs.declared.instruction.Instruction.{Instruction}
 use Rattle.machine.specs.declared.instruction.Instruction.TheVariants.{Alu, Neg, Jump, Always, Exit, Load, Store, NoInstruction}
 use Rattle.analysis.specs.declared.Reason.{Reason}
-use Rattle.analysis.specs.declared.Reason.TheVariants.{NoCode, WritesR10, ReadsUnset, Outside, LeaksAddress}
+use Rattle.analysis.specs.declared.Reason.TheVariants.{ReadsUnset, LeaksAddress}
 use Rattle.analysis.specs.declared.Effect.{Effect}
-use Rattle.analysis.specs.declared.Effect.TheVariants.{Refuse, Put, Keep, Stop}
-use Rattle.analysis.specs.Effects.{Role, copies, converts, adds, subtracts, calculates}
+use Rattle.analysis.specs.declared.Effect.TheVariants as effect
 use Rattle.verifier.specs.declared.effect.Outcome.{Outcome}
+use Rattle.verifier.specs.declared.effect.Outcome.TheVariants.{Put, Keep, Stop}
+use Rattle.waiting.specs.declared.value.Kind.{Kind}
+use Rattle.waiting.specs.declared.value.Kind.TheVariants as kind
 use Rattle.waiting.specs.State.{held_in}
 
--- ---- outcomes
-
--- a reason by its number: of those that an instruction which is no jump is refused for
-unfoldable pub reason_of : ℕ → Reason
-reason_of code =
-    cond (eqb code 3) NoCode
-    (cond (eqb code 4) WritesR10
-    (cond (eqb code 7) ReadsUnset
-    (cond (eqb code 8) Outside
-    LeaksAddress)))
-
-unfoldable pub effect_in : Outcome → Effect
-effect_in o =
-    cond (eqb o.code 0) (Put o.dst (held_in o.held))
-    (cond (eqb o.code 1) Keep
-    (cond (eqb o.code 2) Stop
-    (Refuse (reason_of o.code))))
+unfoldable pub effect_in : Result Outcome Reason → Effect
+effect_in (Ok (Put d h)) = effect.Put d (held_in h)
+effect_in (Ok Keep) = effect.Keep
+effect_in (Ok Stop) = effect.Stop
+effect_in (Err reason) = effect.Refuse reason
 
 -- a jump counts as no instruction
 unfoldable pub without_jumps : Instruction → Instruction
@@ -39,24 +29,13 @@ without_jumps (Load z d s off) = Load z d s off
 without_jumps (Store z d off s) = Store z d off s
 without_jumps NoInstruction = NoInstruction
 
--- ---- kinds of operands
+unfoldable pub is_unset : Kind → Bool
+is_unset kind.Unset = true
+is_unset kind.Mixed = false
+is_unset kind.Plain = false
+is_unset kind.Record = false
+is_unset kind.Stack = false
 
--- the reason's number where values of these kinds may not be used: unset comes before address
-unfoldable pub unusable : ℕ → ℕ → ℕ
-unusable x y = cond (eqb x 0 || eqb y 0) 7 9
-
--- the kind of what an operation of 64 bits makes of an address: below 2 where it may make nothing
-unfoldable pub moved_kind : Role → ℕ → ℕ → ℕ
-moved_kind adds x y = cond (eqb y 2) x (cond (eqb x 2) y 1)
-moved_kind subtracts x y = cond (eqb y 2) x 1
-moved_kind calculates x y = 1
-moved_kind copies x y = 1
-moved_kind converts x y = 1
-
--- and of what it makes of any two values
-unfoldable pub result_kind : Role → ℕ → ℕ → ℕ
-result_kind role x y =
-    cond (eqb x 2 && eqb y 2) 2
-    (cond (eqb x 0 || eqb y 0) 0
-    (cond (eqb x 1 || eqb y 1) 1
-    (moved_kind role x y)))
+-- why values of these kinds may not be used: unset comes before address
+unfoldable pub unusable : Kind → Kind → Reason
+unusable x y = cond (is_unset x || is_unset y) ReadsUnset LeaksAddress

@@ -1,18 +1,21 @@
 -- What the routines of the pass say and leave, by how the definition goes on.
-use Rattle.std.specs.Prelude.{◌≡◌, List, ℕ, ◌+◌, ◌*◌, ◌<◌, min, length, get_or}
+use Rattle.std.specs.Prelude.{Result, Ok, Err, ◌≡◌, List, ℕ, ◌+◌, ◌*◌, ◌<◌, min, length, get_or}
 use Rattle.machine.specs.declared.instruction.Instruction.{Instruction}
 use Rattle.machine.specs.declared.instruction.Instruction.TheVariants.{Alu, Neg, Jump, Always, Exit, Load, Store, NoInstruction}
 use Rattle.analysis.specs.declared.Judged.{Judged}
 use Rattle.analysis.specs.Judged.{Progress, halted, onward, followed}
-use Rattle.verifier.specs.declared.Step.{Step}
-use Rattle.verifier.specs.declared.Step.TheVariants.{Halt, More}
+use Rattle.verifier.specs.declared.Halt.{Halt}
 use Rattle.waiting.specs.Layout.{block_words}
 use Rattle.waiting.specs.Store.{waiting_in}
 
+-- how much has been done, or why the pass halts
+abbrev pub Step : Type 0
+Step = Result ℕ Halt
+
 -- a routine's answer r and the scratch memory m' after it say how the analysis goes on
 abbrev pub Says : Progress → ℕ → Step → List ℕ → Type 0
-Says (halted reason p work) n r m' = (r ≡ Halt reason work) × (waiting_in n m' ≡ p)
-Says (onward p work) n r m' = (r ≡ More work) × (waiting_in n m' ≡ p)
+Says (halted reason p work) n r m' = (r ≡ Err (record { reason = reason; work = work })) × (waiting_in n m' ≡ p)
+Says (onward p work) n r m' = (r ≡ Ok work) × (waiting_in n m' ≡ p)
 
 pub record Made (progress : Progress) (n : ℕ) (r : Step) (m m' : List ℕ) : Type 0 where
   pub size : length m' ≡ length m

@@ -1,264 +1,203 @@
-// What an instruction that is no jump does to the state at a place of scratch memory: one register is read at a time, and none is copied.
-ghost use Rattle.std.specs.Prelude.{◌≡◌, cond, ℕ, ◌+◌, ◌*◌, ◌-◌, ◌^◌, ◌≤◌, length, eqb};
+// What an instruction that is no jump does to a state in scratch memory: one register is read at a time, and none is copied.
+#![tactic(auto, unfolding(crate::specs::Outcome::effect_in, crate::specs::Outcome::unusable, crate::specs::Outcome::is_unset, waiting::specs::State::held_in, waiting::specs::State::of_kind, analysis::specs::Effects::put, analysis::specs::Effects::is_never, analysis::specs::Effects::is_mixed, analysis::specs::Effects::reading, analysis::specs::Effects::reading_both, analysis::specs::Effects::calculate, analysis::specs::Effects::sum, analysis::specs::Effects::difference, analysis::specs::Effects::load, analysis::specs::Effects::limit, analysis::specs::Effects::store, analysis::specs::Effects::store_at, analysis::specs::Effects::exit, analysis::specs::Values::operand_of, machine::specs::Machine::bits, machine::specs::Machine::bytes))]
+
+ghost use Rattle.std.specs.Prelude.{◌≡◌, cond, ℕ, ◌*◌, ◌-◌, ◌^◌};
 ghost use Rattle.word.specs.Word.{alu};
 ghost use Rattle.number.specs.Computed as number;
-ghost use Rattle.number.specs.Sharpen.{exact};
+ghost use Rattle.number.specs.Sharpen.{exact, loaded};
 ghost use Rattle.machine.specs.Machine as machine;
 ghost use Rattle.analysis.specs.Effects as defined;
 ghost use Rattle.analysis.specs.Values.{value_of, operand_of};
-ghost use Rattle.waiting.specs.State.{held_in, facts_at, IsSingle, AreSingle};
+ghost use Rattle.waiting.specs.State.{held_in, IsSingle, AreSingle};
+ghost use Rattle.waiting.specs.View.{facts_of};
 ghost use Rattle.verifier.specs.Outcome as outcome;
-ghost use Rattle.verifier.specs.Outcome.{effect_in, reason_of};
-ghost use Rattle.waiting.specs.Layout.{state_words};
+ghost use Rattle.verifier.specs.Outcome.{effect_in};
 
-use analysis::{Effect, Value};
-use calculator::operation::{alu32, alu64};
+use analysis::{Effect, Reason, Value};
+use calculator::operation;
 use calculator::sharpen::{exactly, fits, load};
 use machine::instruction::{Instruction, Operand, Size, Width};
 use machine::memory::byte_count;
 use number::Number;
-use waiting::state::{register, single_at};
-use waiting::value::{Held, Single, Singles, plain};
+use waiting::state::State;
+use waiting::value::{Held, Kind};
+use word::width::{W32, W64};
 use word::{Operation, by_name};
 
-// Code 0 puts held into dst, 1 keeps the state, 2 stops, and any other is a reason's number.
+// A register gets a value, nothing changes, or the path ends. An instruction that may do none of these is refused, by an Err.
 #[derive(Clone, Copy)]
-pub struct Outcome {
-    pub code: u64,
-    pub dst: u64,
-    pub held: Held,
+pub enum Outcome {
+    Put { dst: u64, held: Held },
+    Keep,
+    Stop,
 }
 
-pub fn operand_held(m: &[u64], at: usize, s: Operand) -> Held
-    requires { at + state_words ≤ length m.now }
-    ensures { held_in result ≡ operand_of (facts_at m.now at) s }
+pub fn operand_held(state: State, s: Operand) -> Held
+    ensures { held_in result ≡ operand_of (facts_of state.entry) s }
 {
     match s {
-        Operand::Immediate(n) => plain(exactly(n)),
-        Operand::Register(r) => register(m, at, r),
+        Operand::Immediate(n) => Held::plain(exactly(n)),
+        Operand::Register(r) => state.register(r),
     }
 }
 
-fn refuse(code: u64) -> Outcome
-    requires { 3 ≤ code }
-    ensures { effect_in result ≡ Effect.Refuse (reason_of code) }
+// r10 is not written.
+fn put(dst: u64, held: Held) -> Result<Outcome, Reason>
+    ensures { effect_in result ≡ defined.put dst (held_in held) }
 {
-    Outcome {
-        code,
-        dst: 0,
-        held: plain(exactly(0)),
+    if dst == 10 {
+        return Err(Reason::WritesR10);
     }
+    Ok(Outcome::Put { dst, held })
 }
 
-fn put(d: u64, h: Held) -> Outcome
-    ensures { effect_in result ≡ defined.put d (held_in h) }
-{
-    if d == 10 {
-        return refuse(4);
-    }
-    Outcome {
-        code: 0,
-        dst: d,
-        held: h,
-    }
-}
-
-pub fn unusable(x: u64, y: u64) -> u64
+// Why values of these kinds may not be used: unset comes before address.
+pub fn unusable(x: Kind, y: Kind) -> Reason
     ensures { result ≡ outcome.unusable x y }
 {
-    if (x == 0) | (y == 0) {
-        return 7;
+    match (x, y) {
+        (Kind::Unset, _) | (_, Kind::Unset) => Reason::ReadsUnset,
+        _ => Reason::LeaksAddress,
     }
-    9
 }
 
-// Values of these kinds may not be used.
-fn refuse_kinds(x: u64, y: u64) -> Outcome
-    ensures { effect_in result ≡ Effect.Refuse (reason_of (outcome.unusable x y)) }
-{
-    refuse(unusable(x, y))
-}
-
-fn copied(d: u64, y: Held) -> Outcome
+fn copied(d: u64, y: Held) -> Result<Outcome, Reason>
     ensures { effect_in result ≡ defined.reading (held_in y) (defined.put d (held_in y)) }
 {
-    if y.kind < 2 {
-        return refuse_kinds(y.kind, y.kind);
-    }
-    put(d, y)
-}
-
-fn calculated32(op: Operation, d: u64, x: Held, y: Held) -> Outcome
-    ensures { effect_in result ≡ defined.reading_both (held_in x) (held_in y) (defined.calculate 32 op d (held_in x) (held_in y)) }
-{
-    if (x.kind == 2) & (y.kind == 2) {
-        return put(d, plain(alu32(op, x.number, y.number)));
-    }
-    refuse_kinds(x.kind, y.kind)
-}
-
-fn moved_kind(op: Operation, x: u64, y: u64) -> u64
-    ensures { result ≡ outcome.moved_kind (defined.role Width.Long op) x y }
-{
-    match op {
-        Operation::Add => {
-            if y == 2 {
-                return x;
-            }
-            if x == 2 {
-                return y;
-            }
-            1
-        }
-        Operation::Sub => {
-            if y == 2 {
-                return x;
-            }
-            1
-        }
-        _ => 1,
+    match y.kind {
+        Kind::Unset => Err(Reason::ReadsUnset),
+        Kind::Mixed => Err(Reason::LeaksAddress),
+        _ => put(d, y),
     }
 }
 
-fn result_kind(op: Operation, x: u64, y: u64) -> u64
-    ensures { result ≡ outcome.result_kind (defined.role Width.Long op) x y }
+// Plain numbers only.
+fn calculated(width: Width, op: Operation, d: u64, x: Held, y: Held) -> Result<Outcome, Reason>
+    ensures { effect_in result ≡ defined.reading_both (held_in x) (held_in y) (defined.calculate (machine.bits width) op d (held_in x) (held_in y)) }
 {
-    if (x == 2) & (y == 2) {
-        return 2;
+    match (x.kind, y.kind) {
+        (Kind::Plain, Kind::Plain) => put(d, Held::plain(computed(width, op, x.number, y.number))),
+        (u, v) => Err(unusable(u, v)),
     }
-    if (x == 0) | (y == 0) {
-        return 0;
-    }
-    if (x == 1) | (y == 1) {
-        return 1;
-    }
-    moved_kind(op, x, y)
 }
 
-// Any operation but MOV.
-fn calculated64(op: Operation, d: u64, x: Held, y: Held) -> Outcome
-    requires { op ≡ Operation.Mov → ⊥ }
-    ensures { effect_in result ≡ defined.arithmetic (defined.role Width.Long op) 64 op d (held_in x) (held_in y) }
+fn computed(width: Width, op: Operation, a: Number, b: Number) -> Number
+    ensures { result ≡ number.computed (machine.bits width) op a b }
 {
-    let kind = result_kind(op, x.kind, y.kind);
-    if kind < 2 {
-        return refuse_kinds(kind, kind);
+    match width {
+        Width::Long => operation::alu::<W64>(op, a, b),
+        Width::Short => operation::alu::<W32>(op, a, b),
     }
-    if y.kind != 2 {
-        return put(
+}
+
+// A number may be added to an address, in either order.
+fn added(d: u64, x: Held, y: Held) -> Result<Outcome, Reason>
+    ensures { effect_in result ≡ defined.reading_both (held_in x) (held_in y) (defined.sum d (held_in x) (held_in y)) }
+{
+    match (x.kind, y.kind) {
+        (Kind::Unset, _) | (_, Kind::Unset) => Err(Reason::ReadsUnset),
+        (Kind::Mixed, _) | (_, Kind::Mixed) => Err(Reason::LeaksAddress),
+        (kind, Kind::Plain) => put(
             d,
             Held {
                 kind,
-                number: alu64(op, y.number, x.number),
+                number: operation::alu::<W64>(Operation::Add, x.number, y.number),
             },
-        );
+        ),
+        (Kind::Plain, kind) => put(
+            d,
+            Held {
+                kind,
+                number: operation::alu::<W64>(Operation::Add, y.number, x.number),
+            },
+        ),
+        _ => Err(Reason::LeaksAddress),
     }
-    put(
-        d,
-        Held {
-            kind,
-            number: alu64(op, x.number, y.number),
-        },
-    )
 }
 
-fn calculated(width: Width, op: Operation, d: u64, x: Held, y: Held) -> Outcome
-    requires { op ≡ Operation.Mov → ⊥ }
-    ensures { effect_in result ≡ defined.arithmetic (defined.role width op) (machine.bits width) op d (held_in x) (held_in y) }
+// And subtracted from it.
+fn subtracted(d: u64, x: Held, y: Held) -> Result<Outcome, Reason>
+    ensures { effect_in result ≡ defined.reading_both (held_in x) (held_in y) (defined.difference d (held_in x) (held_in y)) }
 {
-    match width {
-        Width::Long => calculated64(op, d, x, y),
-        Width::Short => calculated32(op, d, x, y),
+    match (x.kind, y.kind) {
+        (Kind::Unset, _) | (_, Kind::Unset) => Err(Reason::ReadsUnset),
+        (Kind::Mixed, _) | (_, Kind::Mixed) => Err(Reason::LeaksAddress),
+        (kind, Kind::Plain) => put(
+            d,
+            Held {
+                kind,
+                number: operation::alu::<W64>(Operation::Sub, x.number, y.number),
+            },
+        ),
+        _ => Err(Reason::LeaksAddress),
     }
 }
 
-// MOV does not read dst.
-fn moved(width: Width, d: u64, y: Held) -> Outcome
-    ensures { (x : Value) → effect_in result ≡ defined.arithmetic (defined.role width Operation.Mov) (machine.bits width) Operation.Mov d x (held_in y) }
-{
-    match width {
-        Width::Long => copied(d, y),
-        Width::Short => calculated32(Operation::Mov, d, y, y),
-    }
-}
-
-fn operand_single(m: &[u64], at: usize, s: Operand) -> Single
-    requires { at + state_words ≤ length m.now }
-    ensures { IsSingle result (operand_of (facts_at m.now at) s) }
+fn operand_single(state: State, s: Operand) -> Option<u64>
+    ensures { IsSingle result (operand_of (facts_of state.entry) s) }
 {
     match s {
-        Operand::Immediate(n) => Single::One(n),
-        Operand::Register(r) => single_at(m, at, r),
+        Operand::Immediate(n) => Some(n),
+        Operand::Register(r) => state.single(r),
     }
 }
 
-pub fn singles_at(m: &[u64], at: usize, d: u64, s: Operand) -> Singles
-    requires { at + state_words ≤ length m.now }
-    ensures { AreSingle result (value_of (facts_at m.now at) d) (operand_of (facts_at m.now at) s) }
+pub fn singles(state: State, d: u64, s: Operand) -> Option<(u64, u64)>
+    ensures { AreSingle result (value_of (facts_of state.entry) d) (operand_of (facts_of state.entry) s) }
 {
-    match single_at(m, at, d) {
-        Single::Open => Singles::Open,
-        Single::One(first) => match operand_single(m, at, s) {
-            Single::Open => Singles::Open,
-            Single::One(second) => Singles::Both { first, second },
-        },
-    }
+    let first = state.single(d)?;
+    let second = operand_single(state, s)?;
+    Some((first, second))
 }
 
 fn word_of(width: Width, op: Operation, x: u64, y: u64) -> u64
     ensures { result ≡ alu (machine.bits width) op x y }
 {
     match width {
-        Width::Long => by_name::alu64(op, x, y),
-        Width::Short => by_name::alu32(op, x, y),
+        Width::Long => by_name::alu::<W64>(op, x, y),
+        Width::Short => by_name::alu::<W32>(op, x, y),
     }
 }
 
 // Of two known numbers nothing but the words is calculated.
-fn arithmetic(m: &[u64], at: usize, width: Width, op: Operation, d: u64, s: Operand) -> Outcome
-    requires { at + state_words ≤ length m.now }
-    ensures { effect_in result ≡ defined.arithmetic (defined.role width op) (machine.bits width) op d (value_of (facts_at m.now at) d) (operand_of (facts_at m.now at) s) }
+fn arithmetic(
+    state: State,
+    width: Width,
+    op: Operation,
+    d: u64,
+    s: Operand,
+) -> Result<Outcome, Reason>
+    ensures { effect_in result ≡ defined.arithmetic (defined.role width op) (machine.bits width) op d (value_of (facts_of state.entry) d) (operand_of (facts_of state.entry) s) }
 {
-    match singles_at(m, at, d, s) {
-        Singles::Both { first, second } => {
-            put(d, plain(exactly(word_of(width, op, first, second))))
-        }
-        Singles::Open => arithmetic_held(m, at, width, op, d, s),
+    match singles(state, d, s) {
+        Some((x, y)) => put(d, Held::plain(exactly(word_of(width, op, x, y)))),
+        None => arithmetic_held(state, width, op, d, s),
     }
 }
 
-fn arithmetic_held(m: &[u64], at: usize, width: Width, op: Operation, d: u64, s: Operand) -> Outcome
-    requires { at + state_words ≤ length m.now }
-    ensures { effect_in result ≡ defined.arithmetic (defined.role width op) (machine.bits width) op d (value_of (facts_at m.now at) d) (operand_of (facts_at m.now at) s) }
+// MOV does not read dst: of 64 bits the operand is copied, of 32 it is cut.
+fn arithmetic_held(
+    state: State,
+    width: Width,
+    op: Operation,
+    d: u64,
+    s: Operand,
+) -> Result<Outcome, Reason>
+    ensures { effect_in result ≡ defined.arithmetic (defined.role width op) (machine.bits width) op d (value_of (facts_of state.entry) d) (operand_of (facts_of state.entry) s) }
 {
-    let y = operand_held(m, at, s);
-    match op {
-        Operation::Mov => moved(width, d, y),
-        _ => calculated(width, op, d, register(m, at, d), y),
-    }
-}
-
-fn negated(width: Width, d: u64, x: Held) -> Outcome
-    ensures { effect_in result ≡ defined.reading (held_in x) (defined.calculate (machine.bits width) Operation.Neg d (held_in x) (held_in x)) }
-{
+    let y = operand_held(state, s);
     match width {
-        Width::Long => {
-            if x.kind == 2 {
-                return put(d, plain(alu64(Operation::Neg, x.number, x.number)));
-            }
-            refuse_kinds(x.kind, x.kind)
-        }
-        Width::Short => calculated32(Operation::Neg, d, x, x),
+        Width::Long => match op {
+            Operation::Mov => copied(d, y),
+            Operation::Add => added(d, state.register(d), y),
+            Operation::Sub => subtracted(d, state.register(d), y),
+            _ => calculated(width, op, d, state.register(d), y),
+        },
+        Width::Short => match op {
+            Operation::Mov => calculated(width, op, d, y, y),
+            _ => calculated(width, op, d, state.register(d), y),
+        },
     }
-}
-
-fn limit(rlen: u64, kind: u64) -> u64
-    ensures { result ≡ cond (eqb kind 3) rlen 512 }
-{
-    if kind == 3 {
-        return rlen;
-    }
-    512
 }
 
 // The greatest number of as many bytes.
@@ -277,64 +216,55 @@ fn last(size: Size) -> u64
 fn inside(a: Number, off: u64, size: Size, end: u64) -> bool
     ensures { result ≡ number.fits (number.computed 64 Operation.Add a (exact off)) (machine.bytes size) end }
 {
-    fits(
-        alu64(Operation::Add, a, exactly(off)),
-        byte_count(size) as u64,
-        end,
-    )
+    let moved = operation::alu::<W64>(Operation::Add, a, exactly(off));
+    fits(moved, byte_count(size) as u64, end)
 }
 
-fn loaded(rlen: u64, size: Size, d: u64, off: u64, x: Held) -> Outcome
+fn loaded_from(end: u64, size: Size, d: u64, off: u64, a: Number) -> Result<Outcome, Reason>
+    ensures { effect_in result ≡ cond (number.fits (number.computed 64 Operation.Add a (exact off)) (machine.bytes size) end)
+        (defined.put d (Value.Plain (loaded (machine.bytes size)))) (Effect.Refuse Reason.Outside) }
+{
+    if inside(a, off, size, end) {
+        return put(d, Held::plain(load(last(size))));
+    }
+    Err(Reason::Outside)
+}
+
+fn loaded(rlen: u64, size: Size, d: u64, off: u64, x: Held) -> Result<Outcome, Reason>
     ensures { effect_in result ≡ defined.reading (held_in x) (defined.load rlen (machine.bytes size) d off (held_in x)) }
 {
-    if x.kind < 2 {
-        return refuse_kinds(x.kind, x.kind);
+    match x.kind {
+        Kind::Unset => Err(Reason::ReadsUnset),
+        Kind::Mixed => Err(Reason::LeaksAddress),
+        Kind::Plain => Err(Reason::Outside),
+        Kind::Record => loaded_from(rlen, size, d, off, x.number),
+        Kind::Stack => loaded_from(512, size, d, off, x.number),
     }
-    if x.kind == 2 {
-        return refuse(8);
-    }
-    if inside(x.number, off, size, limit(rlen, x.kind)) {
-        return put(d, plain(load(last(size))));
-    }
-    refuse(8)
 }
 
-fn stored(size: Size, off: u64, x: Held, y: Held) -> Outcome
+fn stored(size: Size, off: u64, x: Held, y: Held) -> Result<Outcome, Reason>
     ensures { effect_in result ≡ defined.reading_both (held_in x) (held_in y) (defined.store (machine.bytes size) off (held_in x) (held_in y)) }
 {
-    if (y.kind != 2) | (x.kind < 2) {
-        return refuse_kinds(x.kind, y.kind);
+    match (x.kind, y.kind) {
+        (Kind::Stack, Kind::Plain) if inside(x.number, off, size, 512) => Ok(Outcome::Keep),
+        (Kind::Plain | Kind::Record | Kind::Stack, Kind::Plain) => Err(Reason::Outside),
+        (u, v) => Err(unusable(u, v)),
     }
-    if x.kind < 4 {
-        return refuse(8);
-    }
-    if inside(x.number, off, size, 512) {
-        return Outcome {
-            code: 1,
-            dst: 0,
-            held: x,
-        };
-    }
-    refuse(8)
 }
 
-fn exited(x: Held) -> Outcome
+fn exited(x: Held) -> Result<Outcome, Reason>
     ensures { effect_in result ≡ defined.reading (held_in x) (defined.exit (held_in x)) }
 {
-    if x.kind == 2 {
-        return Outcome {
-            code: 2,
-            dst: 0,
-            held: x,
-        };
+    match x.kind {
+        Kind::Unset => Err(Reason::ReadsUnset),
+        Kind::Plain => Ok(Outcome::Stop),
+        _ => Err(Reason::LeaksAddress),
     }
-    refuse_kinds(x.kind, x.kind)
 }
 
-// What an instruction does to the state at `at`; a jump counts as none.
-pub fn outcome_of(m: &[u64], at: usize, rlen: u64, ins: Instruction) -> Outcome
-    requires { at + state_words ≤ length m.now }
-    ensures { (i : ℕ) → effect_in result ≡ defined.effect rlen i (facts_at m.now at) (outcome.without_jumps ins) }
+// What an instruction does to a state; a jump counts as none.
+pub fn outcome_of(state: State, rlen: u64, ins: Instruction) -> Result<Outcome, Reason>
+    ensures { (i : ℕ) → effect_in result ≡ defined.effect rlen i (facts_of state.entry) (outcome.without_jumps ins) }
 {
     match ins {
         Instruction::Alu {
@@ -342,26 +272,24 @@ pub fn outcome_of(m: &[u64], at: usize, rlen: u64, ins: Instruction) -> Outcome
             operation,
             dst,
             operand,
-        } => arithmetic(m, at, width, operation, dst, operand),
-        Instruction::Neg { width, dst } => negated(width, dst, register(m, at, dst)),
-        Instruction::Exit => exited(register(m, at, 0)),
+        } => arithmetic(state, width, operation, dst, operand),
+        Instruction::Neg { width, dst } => {
+            let x = state.register(dst);
+            calculated(width, Operation::Neg, dst, x, x)
+        }
+        Instruction::Exit => exited(state.register(0)),
         Instruction::Load {
             size,
             dst,
             src,
             off,
-        } => loaded(rlen, size, dst, off, register(m, at, src)),
+        } => loaded(rlen, size, dst, off, state.register(src)),
         Instruction::Store {
             size,
             dst,
             off,
             operand,
-        } => stored(
-            size,
-            off,
-            register(m, at, dst),
-            operand_held(m, at, operand),
-        ),
-        _ => refuse(3),
+        } => stored(size, off, state.register(dst), operand_held(state, operand)),
+        _ => Err(Reason::NoCode),
     }
 }

@@ -1,215 +1,206 @@
 // The tests on form of one instruction, and of all of them in their order.
-ghost use Rattle.std.specs.Prelude.{◌≡◌, ◌/◌, ◌≤◌, ◌<◌, length};
+#![tactic(auto, unfolding(crate::specs::Form::arithmetic_tests, crate::specs::Form::jump_tests, crate::specs::Form::load_tests, crate::specs::Form::store_of_imm_tests, crate::specs::Form::store_of_src_tests, crate::specs::Form::class_tests, crate::specs::Form::field_tests, crate::specs::Form::with_operand_tests, crate::specs::Form::operand_fits, crate::specs::Form::coded, crate::specs::Form::has_line, crate::specs::Form::told, machine::specs::Instruction::operations, machine::specs::Instruction::comparisons, machine::specs::Instruction::loads, machine::specs::Instruction::stores_of_imm, machine::specs::Instruction::stores_of_src))]
+
+ghost use Rattle.std.specs.Prelude.{◌≡◌, ◌&&◌, ◌/◌, ◌%◌, ◌≤◌, length, ◌==◌};
 ghost use Rattle.analysis.specs.Form.{failing, instruction};
 ghost use Rattle.analysis.specs.Judged.{formed};
-ghost use Rattle.machine.specs.Instruction.{operations, comparisons};
-ghost use Rattle.verifier.specs.Form.{told, when_last, when_writing, when_jumping};
+ghost use Rattle.machine.specs.Instruction.{operations, comparisons, loads, stores_of_imm, stores_of_src};
+ghost use Rattle.verifier.specs.Form.{told, when_last, when_writing, when_jumping, operand_fits};
 ghost use Rattle.verifier.specs.Form as defined;
 
+use crate::index::Index;
 use analysis::{Finding, Reason};
-use machine::instruction::parts_at;
-use word::sign::extend16;
+use machine::instruction::{Fields, fields_at};
+use word::sign::extend;
+use word::width::W16;
 
-#[derive(Clone, Copy)]
-pub enum Tested {
-    Good,
-    Bad(Reason),
-}
-
-// An instruction that goes on to the next one may not be the last.
-fn going_on(n: usize, i: usize) -> Tested
-    requires { (i < n) × (n ≤ 4096) }
-    ensures { told result ≡ when_last n i }
-{
-    if i + 1 == n {
-        return Tested::Bad(Reason::JumpsOut);
+impl Index {
+    // An instruction that goes on to the next one may not be the last.
+    fn going_on(self) -> Result<(), Reason>
+        ensures { told result ≡ when_last self.n self.i }
+    {
+        if self.i + 1 == self.n {
+            return Err(Reason::JumpsOut);
+        }
+        Ok(())
     }
-    Tested::Good
-}
 
-fn writing(n: usize, i: usize, dst: u64) -> Tested
-    requires { (i < n) × (n ≤ 4096) }
-    ensures { told result ≡ when_writing n i dst }
-{
-    if dst == 10 {
-        return Tested::Bad(Reason::WritesR10);
+    fn writing(self, dst: u64) -> Result<(), Reason>
+        ensures { told result ≡ when_writing self.n self.i dst }
+    {
+        if dst == 10 {
+            return Err(Reason::WritesR10);
+        }
+        self.going_on()
     }
-    going_on(n, i)
-}
 
-// A target within the program has an instruction before it, so that a jump to it is not the last.
-fn jumping(n: usize, i: usize, off: u64) -> Tested
-    requires { (i < n) × (n ≤ 4096) }
-    ensures { told result ≡ when_jumping n i off }
-{
-    if 0x8000000000000000 <= off {
-        return Tested::Bad(Reason::JumpsBack);
-    }
-    if n as u64 <= i as u64 + 1 + off {
-        return Tested::Bad(Reason::JumpsOut);
-    }
-    Tested::Good
-}
-
-fn coded(holds: bool, t: Tested) -> Tested
-    ensures { told result ≡ defined.coded holds (told t) }
-{
-    if holds {
-        return t;
-    }
-    Tested::Bad(Reason::NoCode)
-}
-
-// The lines of the two long tables: a match, since it becomes one test of a bit.
-fn has_operation(h: u64) -> bool
-    ensures { result ≡ defined.has_line h operations }
-{
-    match h {
-        0 => true,
-        1 => true,
-        2 => true,
-        3 => true,
-        4 => true,
-        5 => true,
-        6 => true,
-        7 => true,
-        9 => true,
-        10 => true,
-        11 => true,
-        12 => true,
-        _ => false,
+    // A target within the program has an instruction before it, so that a jump to it is not the last.
+    fn jumping(self, off: u64) -> Result<(), Reason>
+        ensures { told result ≡ when_jumping self.n self.i off }
+    {
+        if 0x8000000000000000 <= off {
+            return Err(Reason::JumpsBack);
+        }
+        if self.n as u64 <= self.i as u64 + 1 + off {
+            return Err(Reason::JumpsOut);
+        }
+        Ok(())
     }
 }
 
-fn has_comparison(h: u64) -> bool
-    ensures { result ≡ defined.has_line h comparisons }
+// The lines of the tables.
+// Kept: the tables of `machine` answer what a code means; a pattern becomes one test of a bit, and nothing is made.
+fn has_operation(code: u8) -> bool
+    ensures { result ≡ defined.has_line code operations }
 {
-    match h {
-        1 => true,
-        2 => true,
-        3 => true,
-        4 => true,
-        5 => true,
-        6 => true,
-        7 => true,
-        10 => true,
-        11 => true,
-        12 => true,
-        13 => true,
-        _ => false,
-    }
+    matches!(code, 0 | 1 | 2 | 3 | 4 | 5 | 6 | 7 | 9 | 10 | 11 | 12)
+}
+
+fn has_comparison(code: u8) -> bool
+    ensures { result ≡ defined.has_line code comparisons }
+{
+    matches!(code, 1 | 2 | 3 | 4 | 5 | 6 | 7 | 10 | 11 | 12 | 13)
+}
+
+fn has_load(opcode: u8) -> bool
+    ensures { result ≡ defined.has_line opcode loads }
+{
+    matches!(opcode, 0x71 | 0x69 | 0x61 | 0x79)
+}
+
+fn has_store_of_imm(opcode: u8) -> bool
+    ensures { result ≡ defined.has_line opcode stores_of_imm }
+{
+    matches!(opcode, 0x72 | 0x6a | 0x62 | 0x7a)
+}
+
+fn has_store_of_src(opcode: u8) -> bool
+    ensures { result ≡ defined.has_line opcode stores_of_src }
+{
+    matches!(opcode, 0x73 | 0x6b | 0x63 | 0x7b)
 }
 
 // Bit 3 of the opcode says what the second operand is, and which field is unused.
-fn with_operand(opcode: u64, src: u64, imm: u64, t: Tested) -> Tested
-    ensures { told result ≡ defined.with_operand_tests (record { opcode = opcode; dst = 0; src = src; off = 0; imm = imm }) (told t) }
+fn has_operand(f: Fields) -> bool
+    ensures { result ≡ operand_fits f }
 {
-    if opcode / 8 % 2 == 0 {
-        return coded(src == 0, t);
+    if f.opcode / 8 % 2 == 0 {
+        return f.src == 0;
     }
-    coded(imm == 0, t)
+    f.imm == 0
 }
 
-fn arithmetic(n: usize, i: usize, opcode: u64, dst: u64, src: u64, off: u64, imm: u64) -> Tested
-    requires { (i < n) × (n ≤ 4096) }
-    ensures { told result ≡ defined.arithmetic_tests n i (record { opcode = opcode; dst = dst; src = src; off = off; imm = imm }) }
+// NEG, which is 8, has bit 3 clear and neither src nor imm.
+fn has_neg(f: Fields) -> bool
+    ensures { result ≡ (f.opcode / 8 % 2 == 0 && f.src == 0 && f.imm == 0) }
 {
-    if off != 0 {
-        return Tested::Bad(Reason::NoCode);
+    (f.opcode / 8 % 2 == 0) & (f.src == 0) & (f.imm == 0)
+}
+
+fn arithmetic(at: Index, f: Fields) -> Result<(), Reason>
+    ensures { told result ≡ defined.arithmetic_tests at.n at.i f }
+{
+    if f.off != 0 {
+        return Err(Reason::NoCode);
     }
-    let t = writing(n, i, dst);
-    if opcode / 16 == 8 {
-        return coded((opcode / 8 % 2 == 0) & (src == 0) & (imm == 0), t);
+    if f.opcode / 16 == 8 {
+        if has_neg(f) {
+            return at.writing(f.dst);
+        }
+        return Err(Reason::NoCode);
     }
-    coded(
-        has_operation(opcode / 16),
-        with_operand(opcode, src, imm, t),
-    )
+    if !has_operation(f.opcode / 16) {
+        return Err(Reason::NoCode);
+    }
+    if !has_operand(f) {
+        return Err(Reason::NoCode);
+    }
+    at.writing(f.dst)
 }
 
 // Of either width, since JA and EXIT are told by the whole opcode.
-fn jump(n: usize, i: usize, opcode: u64, dst: u64, src: u64, off: u64, imm: u64) -> Tested
-    requires { (i < n) × (n ≤ 4096) }
-    ensures { told result ≡ defined.jump_tests n i (record { opcode = opcode; dst = dst; src = src; off = off; imm = imm }) }
+fn jump(at: Index, f: Fields) -> Result<(), Reason>
+    ensures { told result ≡ defined.jump_tests at.n at.i f }
 {
-    if opcode == 0x95 {
-        return coded(
-            (dst == 0) & (src == 0) & (imm == 0) & (off == 0),
-            Tested::Good,
-        );
+    if f.opcode == 0x95 {
+        if (f.dst == 0) & (f.src == 0) & (f.imm == 0) & (f.off == 0) {
+            return Ok(());
+        }
+        return Err(Reason::NoCode);
     }
-    let t = jumping(n, i, extend16(off));
-    if opcode == 0x05 {
-        return coded((dst == 0) & (src == 0) & (imm == 0), t);
+    if f.opcode == 0x05 {
+        if (f.dst == 0) & (f.src == 0) & (f.imm == 0) {
+            return at.jumping(extend::<W16>(f.off));
+        }
+        return Err(Reason::NoCode);
     }
-    coded(
-        has_comparison(opcode / 16),
-        with_operand(opcode, src, imm, t),
-    )
+    if !has_comparison(f.opcode / 16) {
+        return Err(Reason::NoCode);
+    }
+    if !has_operand(f) {
+        return Err(Reason::NoCode);
+    }
+    at.jumping(extend::<W16>(f.off))
 }
 
-fn load(n: usize, i: usize, opcode: u64, dst: u64, src: u64, off: u64, imm: u64) -> Tested
-    requires { (i < n) × (n ≤ 4096) }
-    ensures { told result ≡ defined.load_tests n i (record { opcode = opcode; dst = dst; src = src; off = off; imm = imm }) }
+fn load(at: Index, f: Fields) -> Result<(), Reason>
+    ensures { told result ≡ defined.load_tests at.n at.i f }
 {
-    let known = (opcode == 0x79) | (opcode == 0x61) | (opcode == 0x69) | (opcode == 0x71);
-    coded(known, coded(imm == 0, writing(n, i, dst)))
+    if has_load(f.opcode) & (f.imm == 0) {
+        return at.writing(f.dst);
+    }
+    Err(Reason::NoCode)
 }
 
-fn store_of_imm(n: usize, i: usize, opcode: u64, dst: u64, src: u64, off: u64, imm: u64) -> Tested
-    requires { (i < n) × (n ≤ 4096) }
-    ensures { told result ≡ defined.store_of_imm_tests n i (record { opcode = opcode; dst = dst; src = src; off = off; imm = imm }) }
+fn store_of_imm(at: Index, f: Fields) -> Result<(), Reason>
+    ensures { told result ≡ defined.store_of_imm_tests at.n at.i f }
 {
-    let known = (opcode == 0x7a) | (opcode == 0x62) | (opcode == 0x6a) | (opcode == 0x72);
-    coded(known, coded(src == 0, going_on(n, i)))
+    if has_store_of_imm(f.opcode) & (f.src == 0) {
+        return at.going_on();
+    }
+    Err(Reason::NoCode)
 }
 
-fn store_of_src(n: usize, i: usize, opcode: u64, dst: u64, src: u64, off: u64, imm: u64) -> Tested
-    requires { (i < n) × (n ≤ 4096) }
-    ensures { told result ≡ defined.store_of_src_tests n i (record { opcode = opcode; dst = dst; src = src; off = off; imm = imm }) }
+fn store_of_src(at: Index, f: Fields) -> Result<(), Reason>
+    ensures { told result ≡ defined.store_of_src_tests at.n at.i f }
 {
-    let known = (opcode == 0x7b) | (opcode == 0x63) | (opcode == 0x6b) | (opcode == 0x73);
-    coded(known, coded(imm == 0, going_on(n, i)))
+    if has_store_of_src(f.opcode) & (f.imm == 0) {
+        return at.going_on();
+    }
+    Err(Reason::NoCode)
 }
 
-fn by_class(n: usize, i: usize, opcode: u64, dst: u64, src: u64, off: u64, imm: u64) -> Tested
-    requires { (i < n) × (n ≤ 4096) }
-    ensures { told result ≡ defined.class_tests n i (record { opcode = opcode; dst = dst; src = src; off = off; imm = imm }) }
+fn by_class(at: Index, f: Fields) -> Result<(), Reason>
+    ensures { told result ≡ defined.class_tests at.n at.i f }
 {
-    if (opcode % 8 == 7) | (opcode % 8 == 4) {
-        return arithmetic(n, i, opcode, dst, src, off, imm);
-    }
-    if (opcode % 8 == 5) | (opcode % 8 == 6) {
-        return jump(n, i, opcode, dst, src, off, imm);
-    }
-    match opcode % 8 {
-        1 => load(n, i, opcode, dst, src, off, imm),
-        2 => store_of_imm(n, i, opcode, dst, src, off, imm),
-        3 => store_of_src(n, i, opcode, dst, src, off, imm),
-        _ => Tested::Bad(Reason::NoCode),
+    match f.opcode % 8 {
+        4 | 7 => arithmetic(at, f),
+        5 | 6 => jump(at, f),
+        1 => load(at, f),
+        2 => store_of_imm(at, f),
+        3 => store_of_src(at, f),
+        _ => Err(Reason::NoCode),
     }
 }
 
-fn test_of(n: usize, i: usize, opcode: u64, dst: u64, src: u64, off: u64, imm: u64) -> Tested
-    requires { (i < n) × (n ≤ 4096) }
-    ensures { told result ≡ defined.field_tests n i (record { opcode = opcode; dst = dst; src = src; off = off; imm = imm }) }
+fn test(at: Index, f: Fields) -> Result<(), Reason>
+    ensures { told result ≡ defined.field_tests at.n at.i f }
 {
-    if 10 < dst {
-        return Tested::Bad(Reason::NoCode);
+    if 10 < f.dst {
+        return Err(Reason::NoCode);
     }
-    if 10 < src {
-        return Tested::Bad(Reason::NoCode);
+    if 10 < f.src {
+        return Err(Reason::NoCode);
     }
-    by_class(n, i, opcode, dst, src, off, imm)
+    by_class(at, f)
 }
 
 // The instruction itself is not made: a program is decoded once, where its values are followed.
-fn test_at(program: &[u8], n: usize, i: usize) -> Tested
-    requires { (i < n) × (n ≤ 4096) × (n ≡ length program.now / 8) }
-    ensures { told result ≡ failing (length program.now / 8) i (instruction program.now i) }
+fn test_at(program: &[u8], at: Index) -> Result<(), Reason>
+    requires { at.n ≡ length program.now / 8 }
+    ensures { told result ≡ failing (length program.now / 8) at.i (instruction program.now at.i) }
 {
-    let f = parts_at(program, i * 8);
-    test_of(n, i, f.opcode as u64, f.dst, f.src, f.off, f.imm)
+    test(at, fields_at(program, at.i * 8))
 }
 
 // The first index that fails, for a program of n instructions.
@@ -217,19 +208,12 @@ pub fn check(program: &[u8], n: usize) -> Finding
     requires { (n ≤ 4096) × (n ≡ length program.now / 8) }
     ensures { result ≡ formed program.now (length program.now / 8) 0 }
 {
-    let mut i = 0;
-    while i < n {
-        let t = test_at(program, n, i);
-        match t {
-            Tested::Bad(reason) => {
-                return Finding::Refused {
-                    reason,
-                    place: i as u64,
-                };
-            }
-            Tested::Good => {
-                i += 1;
-            }
+    for i in 0..n {
+        if let Err(reason) = test_at(program, Index { i, n }) {
+            return Finding::Refused {
+                reason,
+                place: i as u64,
+            };
         }
     }
     Finding::Accepted

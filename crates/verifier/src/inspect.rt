@@ -1,94 +1,83 @@
 // What `annotate` left at an index, for those who explain an answer: what is known of a register, and what the instruction does.
 // Assumes nothing: of scratch memory that is too short, nothing is told.
-ghost use Rattle.std.specs.Prelude.{◌≡◌, ◌+◌, ◌≤◌, ◌<◌, ◌/◌, length};
+ghost use Rattle.std.specs.Prelude.{◌≡◌, ◌+◌, ◌*◌, ◌≤◌, ◌/◌, length};
 ghost use Rattle.analysis.specs.Effects as defined;
 ghost use Rattle.analysis.specs.Form.{instruction};
 ghost use Rattle.analysis.specs.Values.{value_of, operand_of};
 ghost use Rattle.verifier.specs.Inspect.{known_of, deed_of};
 ghost use Rattle.verifier.specs.Outcome.{effect_in};
-ghost use Rattle.waiting.specs.Layout.{words, state_words};
+ghost use Rattle.waiting.specs.Layout as layout;
+ghost use Rattle.waiting.specs.Layout.{words, block_words};
 ghost use Rattle.waiting.specs.State.{held_in, facts_at};
 ghost use Rattle.waiting.specs.Store.{waiting_in};
 ghost use Rattle.verifier.specs.Sending.{shortened};
 
 use crate::effect::{Outcome, operand_held, outcome_of, unusable};
+use crate::index::Index;
 use crate::pass::target;
-use crate::send::reason_of;
-use crate::ways::{told_onward, told_there};
-use analysis::{Effect, Gone, Region, Value};
-use machine::instruction::{Instruction, Operand, Width, decode};
+use crate::send::Branch;
+use crate::ways::told;
+use analysis::{Effect, Gone, Reason, Region, Value};
+use machine::instruction::{Instruction, decode};
 use waiting::BLOCK_WORDS;
-use waiting::state::register;
-use waiting::value::Held;
-use word::Comparison;
+use waiting::store::{state_at, waits_at};
+use waiting::value::{Held, Kind};
 
-#[derive(Clone, Copy)]
-pub enum Known {
-    Unreached,
-    Has(Value),
-}
-
-#[derive(Clone, Copy)]
-pub enum Deed {
-    Nothing,
-    Does(Effect),
-}
-
+#[tactic(auto, unfolding(waiting::specs::State::held_in, waiting::specs::State::of_kind))]
 fn value_of(h: Held) -> Value
     ensures { result ≡ held_in h }
 {
-    let kind = h.kind;
     let n = h.number;
-    match kind {
-        0 => Value::Unusable(Gone::Never),
-        1 => Value::Unusable(Gone::Mixed),
-        2 => Value::Plain(n),
-        3 => Value::Address(Region::Record, n),
-        _ => Value::Address(Region::Stack, n),
+    match h.kind {
+        Kind::Unset => Value::Unusable(Gone::Never),
+        Kind::Mixed => Value::Unusable(Gone::Mixed),
+        Kind::Plain => Value::Plain(n),
+        Kind::Record => Value::Address(Region::Record, n),
+        Kind::Stack => Value::Address(Region::Stack, n),
     }
 }
 
-fn effect_of_outcome(o: Outcome) -> Effect
-    ensures { result ≡ effect_in o }
+#[tactic(auto, unfolding(crate::specs::Outcome::effect_in))]
+fn effect_of_outcome(outcome: Result<Outcome, Reason>) -> Effect
+    ensures { result ≡ effect_in outcome }
 {
-    let code = o.code;
-    let h = o.held;
-    match code {
-        0 => Effect::Put {
-            dst: o.dst,
-            value: value_of(h),
+    match outcome {
+        Ok(Outcome::Put { dst, held }) => Effect::Put {
+            dst,
+            value: value_of(held),
         },
-        1 => Effect::Keep,
-        2 => Effect::Stop,
-        _ => Effect::Refuse(reason_of(code)),
+        Ok(Outcome::Keep) => Effect::Keep,
+        Ok(Outcome::Stop) => Effect::Stop,
+        Err(reason) => Effect::Refuse(reason),
     }
 }
 
-fn fork_of(m: &[u64], at: usize, w: Width, c: Comparison, d: u64, s: Operand, target: u64) -> Effect
-    requires { at + state_words ≤ length m.now }
-    ensures { result ≡ defined.reading_both (value_of (facts_at m.now at) d) (operand_of (facts_at m.now at) s)
-        (defined.fork w c d s target (value_of (facts_at m.now at) d) (operand_of (facts_at m.now at) s)) }
+fn fork_of(m: &[u64], at: Index, b: Branch) -> Effect
+    requires { block_words * at.n ≤ length m.now }
+    ensures { result ≡ defined.reading_both (value_of (facts_at m.now (layout.state_of at.i)) b.dst) (operand_of (facts_at m.now (layout.state_of at.i)) b.operand)
+        (defined.fork b.width b.comparison b.dst b.operand b.target (value_of (facts_at m.now (layout.state_of at.i)) b.dst) (operand_of (facts_at m.now (layout.state_of at.i)) b.operand)) }
 {
-    let x = register(m, at, d);
-    let y = operand_held(m, at, s);
-    if (x.kind != 2) | (y.kind != 2) {
-        return Effect::Refuse(reason_of(unusable(x.kind, y.kind)));
-    }
-    let onward = told_onward(w, c, x.number, y.number);
-    let there = told_there(w, c, x.number, y.number);
+    let state = state_at(m, at.i);
+    let x = state.register(b.dst);
+    let y = operand_held(state, b.operand);
+    let (Kind::Plain, Kind::Plain) = (x.kind, y.kind) else {
+        return Effect::Refuse(unusable(x.kind, y.kind));
+    };
+    let onward = told(b.width, b.comparison, false, x.number, y.number);
+    let taken = told(b.width, b.comparison, true, x.number, y.number);
     Effect::Fork {
-        dst: d,
-        operand: s,
+        dst: b.dst,
+        operand: b.operand,
         onward,
-        taken: there,
-        target,
+        taken,
+        target: b.target,
     }
 }
 
-// What an instruction at index i of n does to the state at `at`.
-fn effect_of(m: &[u64], at: usize, rlen: u64, n: u64, i: u64, ins: Instruction) -> Effect
-    requires { (at + state_words ≤ length m.now) × (i < 4096) × (n ≤ 4096) }
-    ensures { result ≡ defined.effect rlen i (facts_at m.now at) (shortened n ins) }
+// What an instruction at an index does to the state that waits there.
+fn effect_of(m: &[u64], at: Index, rlen: u64, ins: Instruction) -> Effect
+    requires { block_words * at.n ≤ length m.now }
+    ensures { result ≡ defined.effect rlen at.i (facts_at m.now (layout.state_of at.i)) (shortened at.n ins) }
 {
     match ins {
         Instruction::Jump {
@@ -97,56 +86,60 @@ fn effect_of(m: &[u64], at: usize, rlen: u64, n: u64, i: u64, ins: Instruction) 
             dst,
             operand,
             off,
-        } => fork_of(m, at, width, comparison, dst, operand, target(n, i, off)),
+        } => {
+            let target = target(at.n as u64, at.i as u64, off);
+            let branch = Branch {
+                width,
+                comparison,
+                dst,
+                operand,
+                target,
+            };
+            fork_of(m, at, branch)
+        }
         Instruction::Always { off } => Effect::Goto {
-            target: target(n, i, off),
+            target: target(at.n as u64, at.i as u64, off),
         },
-        _ => effect_of_outcome(outcome_of(m, at, rlen, ins)),
+        _ => effect_of_outcome(outcome_of(state_at(m, at.i), rlen, ins)),
     }
 }
 
-// Register r where a path comes to index i of n.
-pub fn register_at(scratch: &[u64], n: usize, i: usize, r: u64) -> Known
+// Register r where a path comes to index i of n; None where none does.
+pub fn register_at(scratch: &[u64], n: usize, i: usize, r: u64) -> Option<Value>
     ensures { words n ≤ length scratch.now → result ≡ known_of (waiting_in n scratch.now i) r }
 {
     if scratch.len() / BLOCK_WORDS < n {
-        return Known::Unreached;
+        return None;
     }
     if n <= i {
-        return Known::Unreached;
+        return None;
     }
-    if scratch[BLOCK_WORDS * i] != 1 {
-        return Known::Unreached;
+    if !waits_at(scratch, i) {
+        return None;
     }
-    Known::Has(value_of(register(scratch, BLOCK_WORDS * i + 1, r)))
+    Some(value_of(state_at(scratch, i).register(r)))
 }
 
-// What the instruction at index i does to what is known there; a jump out of the program leads to no further than its length.
-pub fn effect_at(program: &[u8], record_len: u64, scratch: &[u64], i: usize) -> Deed
+// What the instruction at index i does to what is known there; a jump out of the program leads to no further than its length. None where no
+// path comes to it.
+pub fn effect_at(program: &[u8], record_len: u64, scratch: &[u64], i: usize) -> Option<Effect>
     ensures { words (length program.now / 8) ≤ length scratch.now → length program.now / 8 ≤ 4096
         → result ≡ deed_of record_len i (waiting_in (length program.now / 8) scratch.now i)
         (shortened (length program.now / 8) (instruction program.now i)) }
 {
     let n = program.len() / 8;
     if 4096 < n {
-        return Deed::Nothing;
+        return None;
     }
     if scratch.len() / BLOCK_WORDS < n {
-        return Deed::Nothing;
+        return None;
     }
     if n <= i {
-        return Deed::Nothing;
+        return None;
     }
-    if scratch[BLOCK_WORDS * i] != 1 {
-        return Deed::Nothing;
+    if !waits_at(scratch, i) {
+        return None;
     }
     let ins = decode(program, i * 8);
-    Deed::Does(effect_of(
-        scratch,
-        BLOCK_WORDS * i + 1,
-        record_len,
-        n as u64,
-        i as u64,
-        ins,
-    ))
+    Some(effect_of(scratch, Index { i, n }, record_len, ins))
 }

@@ -4,6 +4,7 @@
 
 mod effect;
 mod form;
+mod index;
 pub mod inspect;
 mod pass;
 mod paths;
@@ -13,9 +14,12 @@ mod ways;
 
 use analysis::Reason;
 
-// How a step of the pass ends, and how much has been done then.
+// Why the pass halts, and how much has been done then.
 #[derive(Clone, Copy)]
-pub enum Step {
-    Halt { reason: Reason, work: u64 },
-    More { work: u64 },
+pub struct Halt {
+    pub reason: Reason,
+    pub work: u64,
 }
+
+// How much has been done after a step of the pass, if it goes on.
+pub type Step = Result<u64, Halt>;

@@ -5,13 +5,13 @@ ghost use Rattle.waiting.specs.Store.{waiting_in, Begun};
 ghost use Rattle.verifier.specs.Sending.{Sent, Followed};
 ghost use Rattle.waiting.specs.Layout.{block_words};
 
-use crate::Step;
 use crate::effect::outcome_of;
-use crate::send::{jump, proceed, send};
+use crate::index::Index;
+use crate::send::{Branch, jump, proceed, send};
+use crate::{Halt, Step};
 use analysis::{Finding, Judged};
 use machine::instruction::{Instruction, decode};
-use waiting::BLOCK_WORDS;
-use waiting::store::begin;
+use waiting::store::{begin, state_at, waits_at};
 
 // A jump by more than the program's length leads out of it, as one by its length does.
 pub fn target(n: u64, i: u64, off: u64) -> u64
@@ -24,38 +24,40 @@ pub fn target(n: u64, i: u64, off: u64) -> u64
     i + 1 + off
 }
 
-fn visit(program: &[u8], n: usize, rlen: u64, m: &mut [u64], i: usize, work: u64) -> Step
-    requires { (i < n) × (n ≤ 4096) × (n ≡ length program.now / 8) × (block_words * n ≤ length m.old) × (work < 1000000) }
-    ensures { Sent (defined.visit program.now rlen i (waiting_in n m.old) work (waiting_in n m.old i))
-        n i result m.old m.new }
+// What waits at an index goes on from there as its instruction says.
+fn visit(program: &[u8], at: Index, rlen: u64, m: &mut [u64], work: u64) -> Step
+    requires { (at.n ≡ length program.now / 8) × (block_words * at.n ≤ length m.old) × (work < 1000000) }
+    ensures { Sent (defined.visit program.now rlen at.i (waiting_in at.n m.old) work (waiting_in at.n m.old at.i))
+        at.n at.i result m.old m.new }
 {
-    let place = BLOCK_WORDS * i;
-    if m[place] != 1 {
-        return Step::More { work };
+    if !waits_at(m, at.i) {
+        return Ok(work);
     }
-    let ins = decode(program, i * 8);
-    match ins {
+    match decode(program, at.i * 8) {
         Instruction::Jump {
             width,
             comparison,
             dst,
             operand,
             off,
-        } => jump(
-            m,
-            n,
-            i,
-            width,
-            comparison,
-            dst,
-            operand,
-            target(n as u64, i as u64, off),
-            work + 1,
-        ),
-        Instruction::Always { off } => { send(m, n, i, target(n as u64, i as u64, off), work + 1) }
-        _ => {
-            let o = outcome_of(m, place + 1, rlen, ins);
-            proceed(m, n, i, o, work + 1)
+        } => {
+            let target = target(at.n as u64, at.i as u64, off);
+            let branch = Branch {
+                width,
+                comparison,
+                dst,
+                operand,
+                target,
+            };
+            jump(m, at, branch, work + 1)
+        }
+        Instruction::Always { off } => {
+            let target = target(at.n as u64, at.i as u64, off);
+            send(m, at, target, work + 1)
+        }
+        ins => {
+            let outcome = outcome_of(state_at(m, at.i), rlen, ins);
+            proceed(m, at, outcome, work + 1)
         }
     }
 }
@@ -66,22 +68,17 @@ pub fn follow(program: &[u8], n: usize, rlen: u64, m: &mut [u64]) -> Judged
 {
     begin(m, n);
     let mut work = 2 * n as u64 + 11;
-    let mut i = 0;
-    while i < n {
-        let step = visit(program, n, rlen, m, i, work);
-        match step {
-            Step::Halt { reason, work: done } => {
+    for i in 0..n {
+        match visit(program, Index { i, n }, rlen, m, work) {
+            Ok(done) => work = done,
+            Err(Halt { reason, work }) => {
                 return Judged {
                     finding: Finding::Refused {
                         reason,
                         place: i as u64,
                     },
-                    work: done,
+                    work,
                 };
-            }
-            Step::More { work: done } => {
-                work = done;
-                i += 1;
             }
         }
     }

@@ -7,37 +7,49 @@ ghost use Rattle.analysis.specs.Judged.{formed};
 ghost use Rattle.analysis.specs.Paths as defined;
 ghost use Rattle.verifier.specs.Targets.{targets_in, Marked, Left};
 
+use crate::index::Index;
 use analysis::{Finding, Reason};
-use machine::instruction::parts_at;
-use word::sign::extend16;
+use machine::instruction::fields_at;
+use word::sign::extend;
+use word::width::W16;
 
-fn is_target(marks: &[u64; 64], j: usize) -> bool
-    requires { (length marks.now ≡ 64) × (j < 4096) }
-    ensures { result ≡ targets_in marks.now j }
-{
-    (marks[j / 64] >> (j % 64)) % 2 == 1
+// Where jumps go to: a bit for each index of the longest program.
+#[derive(Drop)]
+struct Targets {
+    words: [u64; 64],
 }
 
-fn mark(marks: &mut [u64; 64], j: usize)
-    requires { (length marks.old ≡ 64) × (j < 4096) }
-    ensures { Marked j marks.old marks.new }
-{
-    marks[j / 64] = marks[j / 64] | (1 << (j % 64));
+impl Targets {
+    #[tactic(auto, unfolding(crate::specs::Targets::targets_in, word::specs::Word::bit))]
+    fn contains(&self, j: usize) -> bool
+        requires { j < 4096 }
+        ensures { result ≡ targets_in self.now.words j }
+    {
+        (self.words[j / 64] >> (j % 64)) % 2 == 1
+    }
+
+    fn insert(&mut self, j: usize)
+        requires { j < 4096 }
+        ensures { Marked j self.old.words self.new.words }
+    {
+        self.words[j / 64] |= 1 << (j % 64);
+    }
 }
 
 // Whether the instruction goes on to the next one; a jump marks its target.
-fn leave(program: &[u8], n: usize, i: usize, marks: &mut [u64; 64]) -> bool
-    requires { (n ≤ 4096) × (i < n) × (n ≡ length program.now / 8) × Fine n i (instruction program.now i) × (length marks.old ≡ 64) }
-    ensures { Left i (instruction program.now i) result marks.old marks.new }
+fn leave(program: &[u8], at: Index, targets: &mut Targets) -> bool
+    requires size { at.n ≡ length program.now / 8 }
+    requires fine { Fine at.n at.i (instruction program.now at.i) }
+    ensures { Left at.i (instruction program.now at.i) result targets.old.words targets.new.words }
 {
-    let f = parts_at(program, i * 8);
+    let f = fields_at(program, at.i * 8);
     if (f.opcode % 8 != 5) & (f.opcode % 8 != 6) {
         return true;
     }
     if f.opcode == 0x95 {
         return false;
     }
-    mark(marks, i + 1 + extend16(f.off) as usize);
+    targets.insert(at.i + 1 + extend::<W16>(f.off) as usize);
     f.opcode != 0x05
 }
 
@@ -46,18 +58,16 @@ pub fn connected(program: &[u8], n: usize) -> Finding
     requires { (n ≤ 4096) × (n ≡ length program.now / 8) × (formed program.now (length program.now / 8) 0 ≡ finding.Accepted) }
     ensures { result ≡ defined.connected program.now }
 {
-    let mut marks = [0u64; 64];
+    let mut targets = Targets { words: [0; 64] };
     let mut on = true;
-    let mut i = 0;
-    while i < n {
-        if !(on | is_target(&marks, i)) {
+    for i in 0..n {
+        if !(on | targets.contains(i)) {
             return Finding::Refused {
                 reason: Reason::DeadCode,
                 place: i as u64,
             };
         }
-        on = leave(program, n, i, &mut marks);
-        i += 1;
+        on = leave(program, Index { i, n }, &mut targets);
     }
     Finding::Accepted
 }

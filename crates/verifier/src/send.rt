@@ -1,60 +1,71 @@
 // States are sent: the state of an index comes to a later index, where it is copied or joined to what waits there. To send it with a
 // register changed, the register is changed in place, and its words are put back afterwards.
-ghost use Rattle.std.specs.Prelude.{◌≡◌, cond, ◌+◌, ◌*◌, ◌≤◌, ◌<◌, length, get_or};
-ghost use Rattle.std.proofs.Math.Option.{some};
-ghost use Rattle.analysis.specs.Values.{value_of, operand_of, joined_value, joined_facts};
+ghost use Rattle.std.specs.Prelude.{◌≡◌, cond, Some, ◌+◌, ◌*◌, ◌≤◌, ◌<◌, length};
+ghost use Rattle.analysis.specs.Values.{value_of, operand_of};
 ghost use Rattle.analysis.specs.Effects as effects;
 ghost use Rattle.analysis.specs.Judged as defined;
-ghost use Rattle.waiting.specs.State.{held_in, held_at, facts_at, Holds, Stored};
-ghost use Rattle.waiting.specs.Store.{waiting_in, Arrived};
+ghost use Rattle.waiting.specs.State.{held_in, facts_at};
+ghost use Rattle.waiting.specs.Store.{waiting_in};
 ghost use Rattle.verifier.specs.Sending.{Sent};
-ghost use Rattle.verifier.specs.Outcome.{reason_of, effect_in};
-ghost use Rattle.waiting.specs.Layout.{block_words, state_of};
+ghost use Rattle.verifier.specs.Outcome.{effect_in};
+ghost use Rattle.waiting.specs.Layout as layout;
+ghost use Rattle.waiting.specs.Layout.{block_words};
 
-use crate::Step;
-use crate::effect::{Outcome, operand_held, singles_at, unusable};
-use crate::ways::{is_taken, told_onward, told_there};
+use crate::effect::{Outcome, operand_held, singles, unusable};
+use crate::index::Index;
+use crate::ways::{is_taken, told};
+use crate::{Halt, Step};
 use analysis::{Reason, Value};
 use machine::instruction::{Operand, Width};
 use number::{Number, Refined};
-use waiting::BLOCK_WORDS;
-use waiting::state::{put_register, register};
-use waiting::store::{arrive, arrive_with};
-use waiting::value::{Held, Singles, plain};
+use waiting::state::{put_register, put_words_back};
+use waiting::store::{arrive, arrive_with, state_at, state_of, waits_at};
+use waiting::value::{Held, Kind};
 use word::Comparison;
 
-pub fn send(m: &mut [u64], n: usize, i: usize, j: u64, work: u64) -> Step
-    requires { (i < j) × (block_words * n ≤ length m.old) × (work < 1048576) }
-    ensures { Sent (defined.send n j (some (facts_at m.old (state_of i))) (waiting_in n m.old) work) n i result m.old m.new }
+// A jump on a comparison, and the index it leads to where it is taken.
+#[derive(Clone, Copy)]
+pub struct Branch {
+    pub width: Width,
+    pub comparison: Comparison,
+    pub dst: u64,
+    pub operand: Operand,
+    pub target: u64,
+}
+
+// Kept: the words, the place, the target and the work apart, as in `waiting::store`: a value with the lent words in it would have to say at each
+// return that they are the same still.
+pub fn send(m: &mut [u64], at: Index, j: u64, work: u64) -> Step
+    requires { (at.i < j) × (block_words * at.n ≤ length m.old) × (work < 1048576) }
+    ensures { Sent (defined.send at.n j (Some (facts_at m.old (layout.state_of at.i))) (waiting_in at.n m.old) work) at.n at.i result m.old m.new }
 {
-    if n as u64 <= j {
-        return Step::Halt {
+    if at.n as u64 <= j {
+        return Err(Halt {
             reason: Reason::JumpsOut,
             work,
-        };
+        });
     }
-    arrive(m, n, i, j as usize);
-    Step::More { work: work + 11 }
+    arrive(m, at.n, at.i, j as usize);
+    Ok(work + 11)
 }
 
 // With h in register d.
-fn send_with(m: &mut [u64], n: usize, i: usize, j: u64, d: u64, h: Held, work: u64) -> Step
-    requires { (i < n) × (i < j) × (block_words * n ≤ length m.old) × (work < 1048576) }
-    ensures { Sent (defined.send n j (some (defined.having (facts_at m.old (state_of i)) d (held_in h))) (waiting_in n m.old) work) n i result m.old m.new }
+fn send_with(m: &mut [u64], at: Index, j: u64, d: u64, h: Held, work: u64) -> Step
+    requires { (at.i < j) × (block_words * at.n ≤ length m.old) × (work < 1048576) }
+    ensures { Sent (defined.send at.n j (Some (defined.having (facts_at m.old (layout.state_of at.i)) d (held_in h))) (waiting_in at.n m.old) work) at.n at.i result m.old m.new }
 {
-    let at = BLOCK_WORDS * i + 1;
-    let old = register(m, at, d);
-    put_register(m, at, d, h);
-    let step = send(m, n, i, j, work);
-    put_register(m, at, d, old);
+    let state = state_of(at.i);
+    let words = state_at(m, at.i).words_of_register(d);
+    put_register(m, state, d, h);
+    let step = send(m, at, j, work);
+    put_words_back(m, state, d, words);
     step
 }
 
 // With what a way out of a jump tells of both operands.
 fn send_with_both(
     m: &mut [u64],
-    n: usize,
-    i: usize,
+    at: Index,
     j: u64,
     d: u64,
     s: Operand,
@@ -62,161 +73,106 @@ fn send_with_both(
     y: Number,
     work: u64,
 ) -> Step
-    requires { (i < n) × (i < j) × (block_words * n ≤ length m.old) × (work < 1048576) }
-    ensures { Sent (defined.send n j (some (defined.with_operand (defined.having (facts_at m.old (state_of i)) d (Value.Plain x)) s (Value.Plain y))) (waiting_in n m.old) work) n i result m.old m.new }
+    requires { (at.i < j) × (block_words * at.n ≤ length m.old) × (work < 1048576) }
+    ensures { Sent (defined.send at.n j (Some (defined.with_operand (defined.having (facts_at m.old (layout.state_of at.i)) d (Value.Plain x)) s (Value.Plain y))) (waiting_in at.n m.old) work) at.n at.i result m.old m.new }
 {
     match s {
-        Operand::Immediate(_) => send_with(m, n, i, j, d, plain(x), work),
+        Operand::Immediate(_) => send_with(m, at, j, d, Held::plain(x), work),
         Operand::Register(r) => {
-            let at = BLOCK_WORDS * i + 1;
-            let old = register(m, at, d);
-            put_register(m, at, d, plain(x));
-            let step = send_with(m, n, i, j, r, plain(y), work);
-            put_register(m, at, d, old);
+            let state = state_of(at.i);
+            let words = state_at(m, at.i).words_of_register(d);
+            put_register(m, state, d, Held::plain(x));
+            let step = send_with(m, at, j, r, Held::plain(y), work);
+            put_words_back(m, state, d, words);
             step
         }
     }
 }
 
 // A way out of a jump.
-fn send_along(
-    m: &mut [u64],
-    n: usize,
-    i: usize,
-    j: u64,
-    d: u64,
-    s: Operand,
-    way: Refined,
-    work: u64,
-) -> Step
-    requires { (i < n) × (i < j) × (block_words * n ≤ length m.old) × (work < 1048576) }
-    ensures { Sent (defined.send n j (defined.along (facts_at m.old (state_of i)) d s way) (waiting_in n m.old) work) n i result m.old m.new }
+fn send_along(m: &mut [u64], at: Index, j: u64, d: u64, s: Operand, way: Refined, work: u64) -> Step
+    requires { (at.i < j) × (block_words * at.n ≤ length m.old) × (work < 1048576) }
+    ensures { Sent (defined.send at.n j (defined.along (facts_at m.old (layout.state_of at.i)) d s way) (waiting_in at.n m.old) work) at.n at.i result m.old m.new }
 {
     match way {
-        Refined::Excluded => Step::More { work },
-        Refined::Possible(x, y) => send_with_both(m, n, i, j, d, s, x, y, work),
-    }
-}
-
-pub fn reason_of(code: u64) -> Reason
-    ensures { result ≡ reason_of code }
-{
-    match code {
-        3 => Reason::NoCode,
-        4 => Reason::WritesR10,
-        7 => Reason::ReadsUnset,
-        8 => Reason::Outside,
-        _ => Reason::LeaksAddress,
+        None => Ok(work),
+        Some((x, y)) => send_with_both(m, at, j, d, s, x, y, work),
     }
 }
 
 // Both ways out of a jump, the way on first.
-fn fork(
-    m: &mut [u64],
-    n: usize,
-    i: usize,
-    w: Width,
-    c: Comparison,
-    d: u64,
-    s: Operand,
-    target: u64,
-    work: u64,
-) -> Step
-    requires { (i < n) × (i < target) × (n ≤ 4096) × (block_words * n ≤ length m.old) × (work < 1048000) }
-    ensures { Sent (defined.distribute n i (waiting_in n m.old) work (defined.apply (facts_at m.old (state_of i))
-        (effects.reading_both (value_of (facts_at m.old (state_of i)) d) (operand_of (facts_at m.old (state_of i)) s)
-        (effects.fork w c d s target (value_of (facts_at m.old (state_of i)) d) (operand_of (facts_at m.old (state_of i)) s)))))
-        n i result m.old m.new }
+fn fork(m: &mut [u64], at: Index, b: Branch, work: u64) -> Step
+    requires { (at.i < b.target) × (block_words * at.n ≤ length m.old) × (work < 1048000) }
+    ensures { Sent (defined.distribute at.n at.i (waiting_in at.n m.old) work (defined.apply (facts_at m.old (layout.state_of at.i))
+        (effects.reading_both (value_of (facts_at m.old (layout.state_of at.i)) b.dst) (operand_of (facts_at m.old (layout.state_of at.i)) b.operand)
+        (effects.fork b.width b.comparison b.dst b.operand b.target (value_of (facts_at m.old (layout.state_of at.i)) b.dst) (operand_of (facts_at m.old (layout.state_of at.i)) b.operand)))))
+        at.n at.i result m.old m.new }
 {
-    let at = BLOCK_WORDS * i + 1;
-    let x = register(m, at, d);
-    let y = operand_held(m, at, s);
-    if (x.kind != 2) | (y.kind != 2) {
-        return Step::Halt {
-            reason: reason_of(unusable(x.kind, y.kind)),
+    let state = state_at(m, at.i);
+    let x = state.register(b.dst);
+    let y = operand_held(state, b.operand);
+    let (Kind::Plain, Kind::Plain) = (x.kind, y.kind) else {
+        return Err(Halt {
+            reason: unusable(x.kind, y.kind),
             work,
-        };
-    }
-    let onward = told_onward(w, c, x.number, y.number);
-    let step = send_along(m, n, i, i as u64 + 1, d, s, onward, work);
-    match step {
-        Step::Halt { reason, work: done } => Step::Halt { reason, work: done },
-        Step::More { work: done } => {
-            let there = told_there(w, c, x.number, y.number);
-            send_along(m, n, i, target, d, s, there, done)
-        }
-    }
+        });
+    };
+    let onward = told(b.width, b.comparison, false, x.number, y.number);
+    let done = send_along(m, at, at.i as u64 + 1, b.dst, b.operand, onward, work)?;
+    let taken = told(b.width, b.comparison, true, x.number, y.number);
+    send_along(m, at, b.target, b.dst, b.operand, taken, done)
 }
 
 // The state goes on unchanged: to the target, or to the next index.
-fn turn(m: &mut [u64], n: usize, i: usize, taken: bool, target: u64, work: u64) -> Step
-    requires { (i < target) × (i < 4096) × (block_words * n ≤ length m.old) × (work < 1048576) }
-    ensures { Sent (defined.send n (cond taken target (i + 1)) (some (facts_at m.old (state_of i))) (waiting_in n m.old) work) n i result m.old m.new }
+fn turn(m: &mut [u64], at: Index, taken: bool, target: u64, work: u64) -> Step
+    requires { (at.i < target) × (block_words * at.n ≤ length m.old) × (work < 1048576) }
+    ensures { Sent (defined.send at.n (cond taken target (at.i + 1)) (Some (facts_at m.old (layout.state_of at.i))) (waiting_in at.n m.old) work) at.n at.i result m.old m.new }
 {
-    if taken {
-        return send(m, n, i, target, work);
-    }
-    send(m, n, i, i as u64 + 1, work)
+    let next = if taken { target } else { at.i as u64 + 1 };
+    send(m, at, next, work)
 }
 
 // A jump. Two known numbers go one way, and nothing is learnt of them.
-pub fn jump(
-    m: &mut [u64],
-    n: usize,
-    i: usize,
-    w: Width,
-    c: Comparison,
-    d: u64,
-    s: Operand,
-    target: u64,
-    work: u64,
-) -> Step
-    requires { (i < n) × (i < target) × (n ≤ 4096) × (block_words * n ≤ length m.old) × (work < 1048000) }
-    ensures { Sent (defined.distribute n i (waiting_in n m.old) work (defined.apply (facts_at m.old (state_of i))
-        (effects.reading_both (value_of (facts_at m.old (state_of i)) d) (operand_of (facts_at m.old (state_of i)) s)
-        (effects.fork w c d s target (value_of (facts_at m.old (state_of i)) d) (operand_of (facts_at m.old (state_of i)) s)))))
-        n i result m.old m.new }
+pub fn jump(m: &mut [u64], at: Index, b: Branch, work: u64) -> Step
+    requires { (at.i < b.target) × (block_words * at.n ≤ length m.old) × (work < 1048000) }
+    ensures { Sent (defined.distribute at.n at.i (waiting_in at.n m.old) work (defined.apply (facts_at m.old (layout.state_of at.i))
+        (effects.reading_both (value_of (facts_at m.old (layout.state_of at.i)) b.dst) (operand_of (facts_at m.old (layout.state_of at.i)) b.operand)
+        (effects.fork b.width b.comparison b.dst b.operand b.target (value_of (facts_at m.old (layout.state_of at.i)) b.dst) (operand_of (facts_at m.old (layout.state_of at.i)) b.operand)))))
+        at.n at.i result m.old m.new }
 {
-    match singles_at(m, BLOCK_WORDS * i + 1, d, s) {
-        Singles::Both { first, second } => {
-            turn(m, n, i, is_taken(w, c, first, second), target, work)
+    match singles(state_at(m, at.i), b.dst, b.operand) {
+        Some((x, y)) => {
+            let taken = is_taken(b.width, b.comparison, x, y);
+            turn(m, at, taken, b.target, work)
         }
-        Singles::Open => fork(m, n, i, w, c, d, s, target, work),
+        None => fork(m, at, b, work),
     }
 }
 
-fn put_next(m: &mut [u64], n: usize, i: usize, d: u64, h: Held, work: u64) -> Step
-    requires { (i < n) × (n ≤ 4096) × (block_words * n ≤ length m.old) × (work < 1048000) }
-    ensures { Sent (defined.send n (i + 1) (some (defined.having (facts_at m.old (state_of i)) d (held_in h))) (waiting_in n m.old) work) n i result m.old m.new }
+// The state goes on to the next index, with h in register d: where nothing waits there, it is changed at its new place.
+fn put_next(m: &mut [u64], at: Index, d: u64, h: Held, work: u64) -> Step
+    requires { (block_words * at.n ≤ length m.old) × (work < 1048000) }
+    ensures { Sent (defined.send at.n (at.i + 1) (Some (defined.having (facts_at m.old (layout.state_of at.i)) d (held_in h))) (waiting_in at.n m.old) work) at.n at.i result m.old m.new }
 {
-    if i + 1 < n {
-        let place = BLOCK_WORDS * (i + 1);
-        if m[place] != 1 {
-            arrive_with(m, n, i, d, h);
-            return Step::More { work: work + 11 };
-        }
+    if at.i + 1 < at.n && !waits_at(m, at.i + 1) {
+        arrive_with(m, at.n, at.i, d, h);
+        return Ok(work + 11);
     }
-    send_with(m, n, i, i as u64 + 1, d, h, work)
+    send_with(m, at, at.i as u64 + 1, d, h, work)
 }
 
-// An outcome at index i.
-pub fn proceed(m: &mut [u64], n: usize, i: usize, o: Outcome, work: u64) -> Step
-    requires { (i < n) × (n ≤ 4096) × (block_words * n ≤ length m.old) × (work < 1048000) }
-    ensures { Sent (defined.distribute n i (waiting_in n m.old) work
-        (defined.apply (facts_at m.old (state_of i)) (effect_in o))) n i result m.old m.new }
+// What an instruction that is no jump does at an index.
+pub fn proceed(m: &mut [u64], at: Index, outcome: Result<Outcome, Reason>, work: u64) -> Step
+    requires { (block_words * at.n ≤ length m.old) × (work < 1048000) }
+    ensures { Sent (defined.distribute at.n at.i (waiting_in at.n m.old) work
+        (defined.apply (facts_at m.old (layout.state_of at.i)) (effect_in outcome))) at.n at.i result m.old m.new }
 {
-    if o.code == 0 {
-        let h = o.held;
-        return put_next(m, n, i, o.dst, h, work);
-    }
-    if o.code == 1 {
-        return send(m, n, i, i as u64 + 1, work);
-    }
-    if o.code == 2 {
-        return Step::More { work };
-    }
-    Step::Halt {
-        reason: reason_of(o.code),
-        work,
+    match outcome {
+        Ok(does) => match does {
+            Outcome::Put { dst, held } => put_next(m, at, dst, held, work),
+            Outcome::Keep => send(m, at, at.i as u64 + 1, work),
+            Outcome::Stop => Ok(work),
+        },
+        Err(reason) => Err(Halt { reason, work }),
     }
 }

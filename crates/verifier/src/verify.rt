@@ -1,5 +1,5 @@
 // The verifier's answer on any program, any record length and any scratch memory.
-ghost use Rattle.std.specs.Prelude.{◌≡◌, false, ◌/◌, ◌≤◌, length};
+ghost use Rattle.std.specs.Prelude.{◌≡◌, false, Ok, ◌/◌, ◌≤◌, length};
 ghost use Rattle.machine.specs.Machine as machine;
 ghost use Rattle.analysis.specs.declared.Finding.TheVariants as finding;
 ghost use Rattle.analysis.specs.Judged.{formed};
@@ -8,14 +8,15 @@ ghost use Rattle.verifier.specs.Answered.{answered, Annotates, Untouched, Answer
 use crate::form::check;
 use crate::pass::follow;
 use crate::paths::connected;
-use analysis::{Answer, Finding, Judged, Reason};
+use analysis::{Answer, Finding, Judged, Reason, ScratchTooSmall};
 use machine::limits::bad_program;
 use waiting::BLOCK_WORDS;
 
+// Refused before the first instruction is looked at.
 fn refusal(reason: Reason) -> Answer
-    ensures { result ≡ Answer.Judgement (record { finding = Finding.Refused reason 0; work = 0 }) }
+    ensures { result ≡ Ok (record { finding = Finding.Refused reason 0; work = 0 }) }
 {
-    Answer::Judgement(Judged {
+    Ok(Judged {
         finding: Finding::Refused { reason, place: 0 },
         work: 0,
     })
@@ -27,18 +28,17 @@ fn annotate_orderly(program: &[u8], n: usize, record_len: u64, scratch: &mut [u6
     ensures { Answers program.now record_len scratch.old scratch.new result }
 {
     if scratch.len() < BLOCK_WORDS * n {
-        return Answer::ScratchTooSmall {
+        return Err(ScratchTooSmall {
             words: (BLOCK_WORDS as u64) * n as u64,
-        };
+        });
     }
-    let paths = connected(program, n);
-    match paths {
-        Finding::Refused { reason, place } => Answer::Judgement(Judged {
+    if let Finding::Refused { reason, place } = connected(program, n) {
+        return Ok(Judged {
             finding: Finding::Refused { reason, place },
             work: n as u64 + (place + 1),
-        }),
-        Finding::Accepted => Answer::Judgement(follow(program, n, record_len, scratch)),
+        });
     }
+    Ok(follow(program, n, record_len, scratch))
 }
 
 // Scratch memory holds what waits for each index afterwards, where the values were followed; otherwise it is as it was.
@@ -54,14 +54,13 @@ pub fn annotate(program: &[u8], record_len: u64, scratch: &mut [u64]) -> Answer
         return refusal(Reason::LongRecord);
     }
     let n = program.len() / 8;
-    let form = check(program, n);
-    match form {
-        Finding::Refused { reason, place } => Answer::Judgement(Judged {
+    if let Finding::Refused { reason, place } = check(program, n) {
+        return Ok(Judged {
             finding: Finding::Refused { reason, place },
             work: place + 1,
-        }),
-        Finding::Accepted => annotate_orderly(program, n, record_len, scratch),
+        });
     }
+    annotate_orderly(program, n, record_len, scratch)
 }
 
 // A yes is a theorem about the interpreter's definition; a refusal for the form changes nothing.

@@ -1,39 +1,31 @@
 // Which way a jump goes, and what either way tells of its operands, by the width that is compared.
-ghost use Rattle.std.specs.Prelude.{◌≡◌, true, false};
+#![tactic(auto, unfolding(machine::specs::Machine::bits, analysis::specs::Effects::told))]
+
+ghost use Rattle.std.specs.Prelude.{◌≡◌};
 ghost use Rattle.word.specs.Word.{compare};
 ghost use Rattle.machine.specs.Machine.{bits};
 ghost use Rattle.analysis.specs.Effects.{told};
 
-use calculator::compare::{not_taken, taken};
-use calculator::halves::{not_taken32, taken32};
+use calculator::{compare, halves};
 use machine::instruction::Width;
 use number::{Number, Refined};
-use word::Comparison;
-use word::by_name::{compare32, compare64};
+use word::width::{W32, W64};
+use word::{Comparison, by_name};
 
 pub fn is_taken(w: Width, c: Comparison, x: u64, y: u64) -> bool
     ensures { result ≡ compare (bits w) c x y }
 {
     match w {
-        Width::Long => compare64(c, x, y),
-        Width::Short => compare32(c, x, y),
+        Width::Long => by_name::compare::<W64>(c, x, y),
+        Width::Short => by_name::compare::<W32>(c, x, y),
     }
 }
 
-pub fn told_onward(w: Width, c: Comparison, d: Number, s: Number) -> Refined
-    ensures { result ≡ told w c false d s }
+pub fn told(w: Width, c: Comparison, taken: bool, d: Number, s: Number) -> Refined
+    ensures { result ≡ told w c taken d s }
 {
     match w {
-        Width::Long => not_taken(c, d, s),
-        Width::Short => not_taken32(c, d, s),
-    }
-}
-
-pub fn told_there(w: Width, c: Comparison, d: Number, s: Number) -> Refined
-    ensures { result ≡ told w c true d s }
-{
-    match w {
-        Width::Long => taken(c, d, s),
-        Width::Short => taken32(c, d, s),
+        Width::Long => compare::refine(c, taken, d, s),
+        Width::Short => halves::refine(c, taken, d, s),
     }
 }

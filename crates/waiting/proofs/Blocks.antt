@@ -3,7 +3,6 @@ use Prim.Native.Nat.{ℕ, ◌+◌, ◌-◌, ◌*◌, ◌≤◌, ◌<◌}
 use mathlib.Core.Path.{◌≡◌, refl, sym, ap, ap₂, ◌∙◌, subst, fun_ext}
 use mathlib.Core.Bool.{Bool, true, false, cond}
 use mathlib.Core.Logic.{◌⊎◌, inl, inr, ⊎_elim}
-use mathlib.Core.Option.{Option, none, some}
 use mathlib.Core.List.{List}
 use lib.ListN.{length, get_or, set, length-set}
 use lib.Seq.{get_or-set_same, get_or-set_other}
@@ -11,20 +10,21 @@ use lib.Dec.{ltb, eqb}
 use native.Mathlib.Omega.{arith}
 use native.Mathlib.Nat.{eq-or-lt_of_le}
 use borrow.Author.Tests.{ne_eqb, eqb-true, eqb-false, lt-ltb, ltb-true, ltb-false}
+use Rattle.std.specs.Prelude.{Option, Some, None}
 use Rattle.analysis.specs.Values.{Facts, start_facts, joined_facts, meeting}
 use Rattle.analysis.specs.Judged.{Waiting, nobody, having, arrive}
 use Rattle.waiting.specs.declared.value.Held.{Held}
-use Rattle.waiting.specs.State.{held_in, held_at, facts_at, Changed, Stored}
+use Rattle.waiting.specs.State.{held_in, facts_at, Changed, PutBack, Stored}
 use Rattle.waiting.specs.Store.{waiting_in, Cleared, Arrived, Begun}
 use Rattle.waiting.specs.Layout.{value_words, state_words, block_words, state_of}
-use Rattle.waiting.proofs.States.{a_changed_register_is_stored}
-use Rattle.waiting.proofs.Words.{equal_words_hold_equal_states, equal_values_have_equal_words}
+use Rattle.waiting.proofs.States.{a_changed_register_is_stored, outside_of_the_state}
+use Rattle.waiting.proofs.Words.{equal_words_hold_equal_states}
 
 -- ---- blocks
 
 -- a block that a path came to, or nothing
 abbrev block_at : List ℕ → ℕ → Option Facts
-block_at m b = cond (eqb (get_or m b 0) 1) (some (facts_at m (b + 1))) none
+block_at m b = cond (eqb (get_or m b 0) 1) (Some (facts_at m (b + 1))) None
 
 equal_states : (m m' : List ℕ) (at : ℕ) → ((i : ℕ) → i < state_words → get_or m' (at + i) 0 ≡ get_or m (at + i) 0) → facts_at m' at ≡ facts_at m at
 unfolding facts_at
@@ -32,7 +32,7 @@ equal_states m m' at h = ap (λ x. record { registers = x }) (equal_words_hold_e
 
 equal_blocks : (m m' : List ℕ) (b : ℕ) → ((i : ℕ) → i < block_words → get_or m' (b + i) 0 ≡ get_or m (b + i) 0) → block_at m' b ≡ block_at m b
 equal_blocks m m' b h =
-    ap₂ (λ x y. cond (eqb x 1) (some y) none) (rw (let q : b + 0 ≡ b = omega arith in q) at (h 0 (omega arith))) (equal_states m m' (b + 1) (λ i l. further i (h (1 + i) (omega arith))))
+    ap₂ (λ x y. cond (eqb x 1) (Some y) None) (rw (let q : b + 0 ≡ b = omega arith in q) at (h 0 (omega arith))) (equal_states m m' (b + 1) (λ i l. further i (h (1 + i) (omega arith))))
   where
     further : (i : ℕ) → get_or m' (b + (1 + i)) 0 ≡ get_or m (b + (1 + i)) 0 → get_or m' (b + 1 + i) 0 ≡ get_or m (b + 1 + i) 0
     further i e = subst (λ x. get_or m' x 0 ≡ get_or m x 0) (let q : b + (1 + i) ≡ b + 1 + i = omega arith in q) e
@@ -52,23 +52,23 @@ pub others_wait_as_before : (n : ℕ) (m m' : List ℕ) (j : ℕ) (a : Facts) �
 unfolding waiting_in arrive
 others_wait_as_before n m m' j a l mark held others = fun_ext (λ x. go x (eqb x j) refl)
   where
-    here : waiting_in n m' j ≡ some (meeting (waiting_in n m j) a)
-    here = rw (lt-ltb j n l, mark) (ap some (held ∙ ap (λ b. meeting (cond b (block_at m (block_words * j)) none) a) (lt-ltb j n l)))
+    here : waiting_in n m' j ≡ Some (meeting (waiting_in n m j) a)
+    here = rw (lt-ltb j n l, mark) (ap Some (held ∙ ap (λ b. meeting (cond b (block_at m (block_words * j)) None) a) (lt-ltb j n l)))
 
-    go : (x : ℕ) (b : Bool) → eqb x j ≡ b → waiting_in n m' x ≡ cond b (some (meeting (waiting_in n m x) a)) (waiting_in n m x)
+    go : (x : ℕ) (b : Bool) → eqb x j ≡ b → waiting_in n m' x ≡ cond b (Some (meeting (waiting_in n m x) a)) (waiting_in n m x)
     go x true e = rw (eqb-true x j e) here
     go x false e =
-        ap (λ y. cond (ltb x n) y none) (equal_blocks m m' (block_words * x) (λ i k. others (block_words * x + i) (side j x i k (eqb-false x j e))))
+        ap (λ y. cond (ltb x n) y None) (equal_blocks m m' (block_words * x) (λ i k. others (block_words * x + i) (side j x i k (eqb-false x j e))))
 
-pub a_marked_block_waits : (n : ℕ) (m : List ℕ) (j : ℕ) → j < n → get_or m (block_words * j) 0 ≡ 1 → waiting_in n m j ≡ some (facts_at m (state_of j))
+pub a_marked_block_waits : (n : ℕ) (m : List ℕ) (j : ℕ) → j < n → get_or m (block_words * j) 0 ≡ 1 → waiting_in n m j ≡ Some (facts_at m (state_of j))
 unfolding waiting_in
 a_marked_block_waits n m j l e = rw (lt-ltb j n l, e)
 
-pub nothing_waits_in_an_unmarked_block : (n : ℕ) (m : List ℕ) (j : ℕ) → (get_or m (block_words * j) 0 ≡ 1 → ⊥) → waiting_in n m j ≡ none
+pub nothing_waits_in_an_unmarked_block : (n : ℕ) (m : List ℕ) (j : ℕ) → (get_or m (block_words * j) 0 ≡ 1 → ⊥) → waiting_in n m j ≡ None
 unfolding waiting_in
 nothing_waits_in_an_unmarked_block n m j ne = rw (ne_eqb (get_or m (block_words * j) 0) 1 ne) (either (ltb j n))
   where
-    either : (b : Bool) → ◌≡◌ {A = Option Facts} (cond b none none) none
+    either : (b : Bool) → ◌≡◌ {A = Option Facts} (cond b None None) None
     either true = refl
     either false = refl
 
@@ -118,21 +118,22 @@ others_do_not_see : (n i : ℕ) (m m' : List ℕ) → ((k : ℕ) → (k < state_
     → (x : ℕ) → (x ≡ i → ⊥) → waiting_in n m' x ≡ waiting_in n m x
 unfolding waiting_in
 others_do_not_see n i m m' h x ne =
-    ap (λ y. cond (ltb x n) y none)
+    ap (λ y. cond (ltb x n) y None)
     (equal_blocks m m' (block_words * x) (λ k l. h (block_words * x + k) (⊎_elim (λ z. inl (omega arith)) (λ z. inr (omega arith)) (side i x k l ne))))
 
 what_waits_is_kept : (n i : ℕ) (m m' : List ℕ) → ((k : ℕ) → k < block_words * i + block_words → get_or m' k 0 ≡ get_or m k 0) → waiting_in n m' i ≡ waiting_in n m i
 unfolding waiting_in
-what_waits_is_kept n i m m' h = ap (λ y. cond (ltb i n) y none) (equal_blocks m m' (block_words * i) (λ k l. h (block_words * i + k) (omega arith)))
+what_waits_is_kept n i m m' h = ap (λ y. cond (ltb i n) y None) (equal_blocks m m' (block_words * i) (λ k l. h (block_words * i + k) (omega arith)))
 
 -- before is changed to sent, what is done then leaves done, and the register's words are put back
-module _ (n i d : ℕ) (m sent done m' : List ℕ) (h old : Held) (was : d < 11 → old ≡ held_at m (state_of i + value_words * d))
-    (put : Changed m sent (state_of i) d h) (back : Changed done m' (state_of i) d old)
+module _ (n i d : ℕ) (m sent done m' : List ℕ) (h : Held) (w : List ℕ)
+    (was : d < 11 → (k : ℕ) → k < value_words → get_or w k 0 ≡ get_or m (state_of i + value_words * d + k) 0)
+    (put : Changed m sent (state_of i) d h) (back : PutBack done m' (state_of i) d w)
     (kept : (k : ℕ) → k < block_words * i + block_words → get_or done k 0 ≡ get_or sent k 0) where
   at_the_register : d < 11 → (k : ℕ) → state_of i + value_words * d ≤ k → k < state_of i + value_words * d + 5 → get_or m' k 0 ≡ get_or m k 0
   at_the_register l k low high =
       subst (λ x. get_or m' x 0 ≡ get_or m x 0) (let q : state_of i + value_words * d + (k - (state_of i + value_words * d)) ≡ k = omega arith in q)
-      (equal_values_have_equal_words m m' (state_of i + value_words * d) (state_of i + value_words * d) (back.held l ∙ was l) (k - (state_of i + value_words * d)) (omega arith))
+      (back.words l (k - (state_of i + value_words * d)) (omega arith) ∙ was l (k - (state_of i + value_words * d)) (omega arith))
 
   beside_it : (k : ℕ) → k < block_words * i + block_words → (k < state_of i + value_words * d) ⊎ (state_of i + value_words * d + value_words ≤ k) → get_or m' k 0 ≡ get_or m k 0
   beside_it k l g = back.others k g ∙ kept k l ∙ put.others k g
@@ -154,7 +155,7 @@ module _ (n i d : ℕ) (m sent done m' : List ℕ) (h old : Held) (was : d < 11 
     where
       there : (x : ℕ) → (x ≡ i → ⊥) → waiting_in n m' x ≡ f (waiting_in n m) x
       there x ne =
-          others_do_not_see n i done m' (a_changed_register_is_stored done m' (state_of i) d old back).others x ne
+          others_do_not_see n i done m' (outside_of_the_state done m' (state_of i) d w back) x ne
           ∙ ap (λ w. w x) does
           ∙ each (waiting_in n sent) (waiting_in n m) x (others_do_not_see n i m sent (a_changed_register_is_stored m sent (state_of i) d h put).others x ne)
 
@@ -164,20 +165,11 @@ module _ (n i d : ℕ) (m sent done m' : List ℕ) (h old : Held) (was : d < 11 
 
 -- ---- the marks are cleared
 
-pub one_more_is_cleared : (m : List ℕ) (j : ℕ) → block_words * j < length m → ((x : ℕ) → x < j → get_or m (block_words * x) 0 ≡ 0)
-    → (x : ℕ) → x < j + 1 → get_or (set m (block_words * j) 0) (block_words * x) 0 ≡ 0
-one_more_is_cleared m j l h x g =
-    ⊎_elim (λ (q : x ≡ j). same x q) (λ (q : x < j). get_or-set_other m (block_words * j) (block_words * x) 0 0 (λ z. omega arith) ∙ h x q)
-    (eq-or-lt_of_le (let q : x ≤ j = omega arith in q))
-  where
-    same : (x : ℕ) → x ≡ j → get_or (set m (block_words * j) 0) (block_words * x) 0 ≡ 0
-    same x q = rw q (get_or-set_same m (block_words * j) 0 0 l)
-
 pub all_is_cleared : (n : ℕ) (m m' : List ℕ) → length m' ≡ length m → ((x : ℕ) → x < n → get_or m' (block_words * x) 0 ≡ 0) → Cleared n m m'
 unfolding waiting_in nobody
 all_is_cleared n m m' size h = record { size = size; waits = fun_ext (λ x. go x (ltb x n) refl) }
   where
-    go : (x : ℕ) (b : Bool) → ltb x n ≡ b → cond b (block_at m' (block_words * x)) none ≡ none
+    go : (x : ℕ) (b : Bool) → ltb x n ≡ b → cond b (block_at m' (block_words * x)) None ≡ None
     go x true e = rw (h x (ltb-true _ _ e))
     go x false e = refl
 
@@ -194,5 +186,3 @@ the_start_waits n m m' m'' l fit clear st = record {
   where
     same : facts_at (set m'' 0 1) 1 ≡ facts_at m'' 1
     same = equal_states m'' (set m'' 0 1) 1 (λ k h. get_or-set_other m'' 0 (1 + k) 1 0 (λ e. omega arith))
-
--- ---- nothing is known

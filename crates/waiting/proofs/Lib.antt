@@ -1,4 +1,5 @@
 pub mod ByKind
 pub mod Words
+pub mod Parts
 pub mod States
 pub mod Blocks

@@ -9,6 +9,7 @@ use lib.Seq.{get_or-set_same, get_or-set_other}
 use lib.Dec.{ltb, eqb}
 use native.Mathlib.Omega.{arith}
 use native.Mathlib.Nat.{eq-or-lt_of_le}
+use Rattle.std.proofs.lemmas.List.{get_or-replicate, length-replicate}
 use borrow.Author.Tests.{eqb-true, eqb-false, ltb-true, ltb-false}
 use Rattle.number.specs.declared.Number.{Number}
 use Rattle.number.specs.Sharpen.{exact, just}
@@ -19,8 +20,10 @@ use Rattle.analysis.specs.declared.Value.TheVariants.{Unusable, Plain, Address}
 use Rattle.analysis.specs.Values.{Facts, value_of, start_facts, joined_value, joined_values, joined_facts}
 use Rattle.analysis.specs.Judged.{having}
 use Rattle.waiting.specs.declared.value.Held.{Held}
-use Rattle.waiting.specs.State.{of_kind, held_in, held_at, values_at, facts_at, nothing_known, Wrote, Holds, Changed, Stored}
+use Rattle.waiting.specs.declared.value.Kind.TheVariants as kind
+use Rattle.waiting.specs.State.{kind_of, of_kind, held_in, held_at, values_at, facts_at, nothing_known, Holds, Changed, PutBack, Stored}
 use Rattle.waiting.specs.Layout.{value_words, state_words}
+use Rattle.waiting.proofs.Parts.{Replaced}
 use Rattle.waiting.proofs.Words.{equal_words_hold_equal_values, number_of_values, value_of_a_state, equal_words_hold_equal_states, a_state_is_its_values, Storing, one_more_is_stored}
 
 -- ---- a register of a state
@@ -42,12 +45,6 @@ set_beyond : (a : List Value) (d : ℕ) (v : Value) → length a ≤ d → set a
 set_beyond [] d v l = refl
 set_beyond (x ∷ a) zero v l = absurd (omega arith)
 set_beyond (x ∷ a) (suc d) v l = ap (λ y. x ∷ y) (set_beyond a d v (omega arith))
-
-pub nothing_is_put_out_of_range : (m : List ℕ) (at d : ℕ) (h : Held) → 11 ≤ d → Changed m m at d h
-nothing_is_put_out_of_range m at d h l = record { size = refl; held = λ g. absurd (omega arith); others = λ i g. refl; outside = λ g. refl }
-
-pub a_register_is_put : (m m' : List ℕ) (at d : ℕ) (h : Held) → d < 11 → Wrote m m' (at + value_words * d) h → Changed m m' at d h
-a_register_is_put m m' at d h l w = record { size = w.size; held = λ g. w.held; others = w.others; outside = λ g. absurd (omega arith) }
 
 -- r is not register d: its words are others
 apart : (at r d i : ℕ) → i < value_words → (r ≡ d → ⊥) → (at + value_words * r + i < at + value_words * d) ⊎ (at + value_words * d + value_words ≤ at + value_words * r + i)
@@ -98,6 +95,15 @@ module _ (m m' : List ℕ) (at d : ℕ) (h : Held) (put : Changed m m' at d h) w
     others = λ i g. words_outside_the_state i g (ltb d 11) refl;
   }
 
+-- words that are put back into a state
+pub outside_of_the_state : (m m' : List ℕ) (at d : ℕ) (w : List ℕ) → PutBack m m' at d w → (i : ℕ) → (i < at) ⊎ (at + state_words ≤ i)
+    → get_or m' i 0 ≡ get_or m i 0
+outside_of_the_state m m' at d w back i g = go (ltb d 11) refl
+  where
+    go : (b : Bool) → ltb d 11 ≡ b → get_or m' i 0 ≡ get_or m i 0
+    go true e = let q : d < 11 = ltb-true _ _ e in back.others i (⊎_elim (λ x. inl (omega arith)) (λ x. inr (omega arith)) g)
+    go false e = ap (λ x. get_or x i 0) (back.outside (ltb-false _ _ e))
+
 -- ---- a state is stored in steps
 
 -- what was stored is altered
@@ -107,7 +113,7 @@ a_stored_state_is_altered f m m' m'' at a h g =
     record { size = g.size ∙ h.size; held = g.held ∙ ap f h.held; others = λ i l. g.others i l ∙ h.others i l }
 
 pub the_start_is_written : (m m' m'' m''' : List ℕ) (at : ℕ) (e f : Number) → Stored m m' at nothing_known
-    → Changed m' m'' at 1 (record { kind = 3; number = e }) → Changed m'' m''' at 10 (record { kind = 4; number = f })
+    → Changed m' m'' at 1 (record { kind = kind.Record; number = e }) → Changed m'' m''' at 10 (record { kind = kind.Stack; number = f })
     → e ≡ exact 0 → f ≡ exact 512 → Stored m m''' at start_facts
 unfolding nothing_known start_facts having held_in of_kind
 the_start_is_written m m' m'' m''' at e f h g k is-0 is-512 =
@@ -123,28 +129,6 @@ pub record Copying (m m' : List ℕ) (from to k : ℕ) : Type 0 where
   pub few : k ≤ state_words
   pub held : (r : ℕ) → r < k → get_or m' (to + r) 0 ≡ get_or m (from + r) 0
   pub others : (i : ℕ) → (i < to) ⊎ (to + k ≤ i) → get_or m' i 0 ≡ get_or m i 0
-
-pub none_is_copied : (m : List ℕ) (from to : ℕ) → Copying m m from to 0
-none_is_copied m from to = record { size = refl; few = omega arith; held = λ r h. absurd (omega arith); others = λ i h. refl }
-
-pub one_more_is_copied : (m m' : List ℕ) (from to k : ℕ) → from + state_words ≤ to → to + state_words ≤ length m → k < state_words → Copying m m' from to k
-    → Copying m (set m' (to + k) (get_or m' (from + k) 0)) from to (k + 1)
-one_more_is_copied m m' from to k apart fit l h = record {
-  size = length-set m' (to + k) w ∙ h.size;
-  few = omega arith;
-  held = λ r g. ⊎_elim (λ (e : r ≡ k). here r e) (λ (g' : r < k). before r g') (eq-or-lt_of_le (let q : r ≤ k = omega arith in q));
-  others = λ i g. get_or-set_other m' (to + k) i w 0 (⊎_elim (λ x e. omega arith) (λ x e. omega arith) g)
-      ∙ h.others i (⊎_elim (λ x. inl x) (λ x. inr (omega arith)) g);
-}
-  where
-    w : ℕ
-    w = get_or m' (from + k) 0
-
-    here : (r : ℕ) → r ≡ k → get_or (set m' (to + k) w) (to + r) 0 ≡ get_or m (from + r) 0
-    here r e = rw e (get_or-set_same m' (to + k) w 0 (let q = h.size in omega arith) ∙ h.others (from + k) (inl (omega arith)))
-
-    before : (r : ℕ) → r < k → get_or (set m' (to + k) w) (to + r) 0 ≡ get_or m (from + r) 0
-    before r g = get_or-set_other m' (to + k) (to + r) w 0 (λ e. omega arith) ∙ h.held r g
 
 pub a_state_is_copied : (m m' : List ℕ) (from to k : ℕ) → state_words ≤ k → Copying m m' from to k → Stored m m' to (facts_at m from)
 unfolding facts_at
@@ -222,10 +206,32 @@ never_known r = all_alike 11 r
     all_alike (suc k) zero = refl
     all_alike (suc k) (suc r) = all_alike k r
 
+-- words that are 0 hold values that are unset
+pub nothing_is_known_of_zeros : (m m' part : List ℕ) (at : ℕ) → part ≡ replicate state_words 0 → Replaced m m' at part → Stored m m' at nothing_known
+unfolding facts_at nothing_known held_in held_at kind_of of_kind
+nothing_is_known_of_zeros m m' part at e h = record {
+  size = h.size;
+  held = ap (λ x. record { registers = x })
+      (a_state_is_its_values m' at nothing_known.registers registers (λ r l. unset_at r l ∙ sym (never_known r)));
+  others = λ i g. h.others i (⊎_elim (λ x. inl x) (λ x. inr (omega (arith, size))) g);
+}
+  where
+    size : length part ≡ state_words
+    size = ap length e ∙ length-replicate {A = ℕ} state_words 0
+
+    registers : length nothing_known.registers ≡ 11
+    registers = refl
+
+    zero_at : (k : ℕ) → k < state_words → get_or m' (at + k) 0 ≡ 0
+    zero_at k l = h.here k (omega (arith, size)) ∙ ap (λ x. get_or x k 0) e ∙ get_or-replicate state_words k 0 0 l
+
+    unset_at : (r : ℕ) → r < 11 → held_in (held_at m' (at + value_words * r)) ≡ Unusable Never
+    unset_at r l = rw (zero_at (value_words * r) (omega arith))
+
 -- ---- the words of one number
 
 pub one_number : (m : List ℕ) (at r : ℕ) → r < 11 → get_or m (at + value_words * r) 0 ≡ 2 → get_or m (at + value_words * r + 2) 0 ≡ 0
     → get_or m (at + value_words * r + 3) 0 ≡ get_or m (at + value_words * r + 1) 0 → get_or m (at + value_words * r + 4) 0 ≡ get_or m (at + value_words * r + 1) 0
     → value_of (facts_at m at) r ≡ Plain (exact (get_or m (at + value_words * r + 1) 0))
-unfolding held_in of_kind held_at exact just
+unfolding held_in of_kind kind_of held_at exact just
 one_number m at r l kind mask lo hi = register_in_range m at r l ∙ rw (kind, mask, lo, hi)

@@ -13,19 +13,20 @@ use Rattle.analysis.specs.declared.Value.TheVariants.{Unusable}
 use Rattle.analysis.specs.Values.{Facts}
 use Rattle.waiting.specs.declared.value.Held.{Held}
 use Rattle.waiting.specs.Layout.{value_words}
-use Rattle.waiting.specs.State.{held_in, held_at, values_at, facts_at, Wrote, Holds, Stored}
+use Rattle.waiting.proofs.ByKind.{kind_of_its_word}
+use Rattle.waiting.specs.State.{word_of, held_in, held_at, values_at, facts_at, Wrote, Holds, Stored}
 
 -- ---- a value
 
 -- the words m with five more written at `at`
 abbrev pub written : List ℕ → ℕ → Held → List ℕ
 written m at h =
-    set (set (set (set (set m at h.kind) (at + 1) h.number.bits.value) (at + 2) h.number.bits.mask) (at + 3) h.number.range.lo)
+    set (set (set (set (set m at (word_of h.kind)) (at + 1) h.number.bits.value) (at + 2) h.number.bits.mask) (at + 3) h.number.range.lo)
     (at + 4) h.number.range.hi
 
 module _ (m : List ℕ) (at : ℕ) (h : Held) where
   m0 : List ℕ
-  m0 = set m at h.kind
+  m0 = set m at (word_of h.kind)
 
   m1 : List ℕ
   m1 = set m0 (at + 1) h.number.bits.value
@@ -43,17 +44,17 @@ module _ (m : List ℕ) (at : ℕ) (h : Held) where
       ∙ get_or-set_other m2 (at + 3) i h.number.range.lo 0 (⊎_elim (λ l e. omega arith) (λ l e. omega arith) apart)
       ∙ get_or-set_other m1 (at + 2) i h.number.bits.mask 0 (⊎_elim (λ l e. omega arith) (λ l e. omega arith) apart)
       ∙ get_or-set_other m0 (at + 1) i h.number.bits.value 0 (⊎_elim (λ l e. omega arith) (λ l e. omega arith) apart)
-      ∙ get_or-set_other m at i h.kind 0 (⊎_elim (λ l e. omega arith) (λ l e. omega arith) apart)
+      ∙ get_or-set_other m at i (word_of h.kind) 0 (⊎_elim (λ l e. omega arith) (λ l e. omega arith) apart)
 
   module _ (fit : at + value_words ≤ length m) where
-    word_0 : get_or (written m at h) at 0 ≡ h.kind
+    word_0 : get_or (written m at h) at 0 ≡ word_of h.kind
     unfolding m0 m1 m2 m3
     word_0 =
         get_or-set_other m3 (at + 4) at h.number.range.hi 0 (omega arith)
         ∙ get_or-set_other m2 (at + 3) at h.number.range.lo 0 (omega arith)
         ∙ get_or-set_other m1 (at + 2) at h.number.bits.mask 0 (omega arith)
         ∙ get_or-set_other m0 (at + 1) at h.number.bits.value 0 (omega arith)
-        ∙ get_or-set_same m at h.kind 0 (omega arith)
+        ∙ get_or-set_same m at (word_of h.kind) 0 (omega arith)
 
     word_1 : get_or (written m at h) (at + 1) 0 ≡ h.number.bits.value
     unfolding m0 m1 m2 m3
@@ -82,14 +83,11 @@ module _ (m : List ℕ) (at : ℕ) (h : Held) where
 
     written_here : held_at (written m at h) at ≡ h
     unfolding held_at
-    written_here = rw (word_0, word_1, word_2, word_3, word_4)
+    written_here = rw (word_0, word_1, word_2, word_3, word_4, kind_of_its_word h.kind)
 
 pub writing_five_words : (m : List ℕ) (at : ℕ) (h : Held) → at + value_words ≤ length m → Wrote m (written m at h) at h
 writing_five_words m at h fit =
     record { size = simp length-set; held = written_here m at h fit; others = written_elsewhere m at h }
-
-pub what_is_written_is_held : (m m' : List ℕ) (at : ℕ) (h : Held) (v : Value) → Wrote m m' at h → held_in h ≡ v → Holds m m' at v
-what_is_written_is_held m m' at h v w e = record { size = w.size; held = ap held_in w.held ∙ e; others = w.others }
 
 pub equal_words_hold_equal_values : (m m' : List ℕ) (a b : ℕ) → ((i : ℕ) → i < value_words → get_or m' (b + i) 0 ≡ get_or m (a + i) 0) → held_at m' b ≡ held_at m a
 unfolding held_at
@@ -98,15 +96,6 @@ equal_words_hold_equal_values m m' a b h =
   where
     zeroth : get_or m' b 0 ≡ get_or m a 0
     zeroth = rw (let q : b + 0 ≡ b = omega arith in q, let q : a + 0 ≡ a = omega arith in q) at (h 0 (omega arith))
-
-pub equal_values_have_equal_words : (m m' : List ℕ) (a b : ℕ) → held_at m' b ≡ held_at m a → (i : ℕ) → i < value_words → get_or m' (b + i) 0 ≡ get_or m (a + i) 0
-unfolding held_at
-equal_values_have_equal_words m m' a b e zero l = rw (let q : b + 0 ≡ b = omega arith in q, let q : a + 0 ≡ a = omega arith in q) (ap (λ h. h.kind) e)
-equal_values_have_equal_words m m' a b e (suc zero) l = ap (λ h. h.number.bits.value) e
-equal_values_have_equal_words m m' a b e (suc (suc zero)) l = ap (λ h. h.number.bits.mask) e
-equal_values_have_equal_words m m' a b e (suc (suc (suc zero))) l = ap (λ h. h.number.range.lo) e
-equal_values_have_equal_words m m' a b e (suc (suc (suc (suc zero)))) l = ap (λ h. h.number.range.hi) e
-equal_values_have_equal_words m m' a b e (suc (suc (suc (suc (suc i))))) l = absurd (omega arith)
 
 -- ---- a state
 
@@ -146,9 +135,6 @@ pub record Storing (m m' : List ℕ) (at : ℕ) (a : List Value) (k : ℕ) : Typ
   pub few : k ≤ 11
   pub held : (r : ℕ) → r < k → held_in (held_at m' (at + value_words * r)) ≡ get_or a r (Unusable Never)
   pub others : (i : ℕ) → (i < at) ⊎ (at + value_words * k ≤ i) → get_or m' i 0 ≡ get_or m i 0
-
-pub none_is_stored : (m : List ℕ) (at : ℕ) (a : List Value) → Storing m m at a 0
-none_is_stored m at a = record { size = refl; few = omega arith; held = λ r h. absurd (omega arith); others = λ i h. refl }
 
 pub one_more_is_stored : (m m' m'' : List ℕ) (at : ℕ) (a : List Value) (k : ℕ) (v : Value) → k < 11 → get_or a k (Unusable Never) ≡ v
     → Storing m m' at a k → Holds m' m'' (at + value_words * k) v → Storing m m'' at a (k + 1)

@@ -1,3 +1,4 @@
 pub mod Layout
 pub mod State
 pub mod Store
+pub mod View

@@ -1,6 +1,5 @@
 -- What waits for each index: a block of words an index, a mark and a state.
-use Rattle.std.specs.Prelude.{◌≡◌, cond, List, ℕ, ◌+◌, ◌*◌, ◌<◌, length, get_or, eqb, ltb}
-use Rattle.std.proofs.Math.Option.{none, some}
+use Rattle.std.specs.Prelude.{◌≡◌, cond, List, ℕ, ◌+◌, ◌*◌, ◌<◌, length, get_or, eqb, ltb, Some, None}
 use Rattle.analysis.specs.Values.{Facts, start_facts}
 use Rattle.analysis.specs.Judged.{Waiting, nobody, arrive}
 use Rattle.waiting.specs.Layout.{block_words, state_of}
@@ -8,7 +7,7 @@ use Rattle.waiting.specs.State.{facts_at}
 
 -- for each of n indices: a block is marked by 1
 unfoldable pub waiting_in : ℕ → List ℕ → Waiting
-waiting_in n m j = cond (ltb j n) (cond (eqb (get_or m (block_words * j) 0) 1) (some (facts_at m (state_of j))) none) none
+waiting_in n m j = cond (ltb j n) (cond (eqb (get_or m (block_words * j) 0) 1) (Some (facts_at m (state_of j))) None) None
 
 -- nothing waits for any of n indices
 pub record Cleared (n : ℕ) (m m' : List ℕ) : Type 0 where

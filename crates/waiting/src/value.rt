@@ -1,71 +1,102 @@
 // Values as scratch memory holds them, and what covers two where paths meet.
 ghost use Rattle.std.specs.Prelude.{◌≡◌};
 ghost use Rattle.analysis.specs.Values.{joined_value};
-ghost use Rattle.waiting.specs.State.{held_in, joined_kind};
+ghost use Rattle.waiting.specs.State as defined;
+ghost use Rattle.waiting.specs.State.{held_in};
 
 use analysis::Value;
-use calculator::sharpen::join;
+use calculator::sharpen::{exactly, join};
 use number::Number;
 
-// Kind 0 is unset, 1 mixed, 2 a number, 3 an address into the record, and any other an address into the stack.
+// What a value is: unset on some path, of kinds that differ, a number, an address into the record or one into the stack.
+#[derive(Clone, Copy)]
+pub enum Kind {
+    Unset,
+    Mixed,
+    Plain,
+    Record,
+    Stack,
+}
+
+#[tactic(auto, unfolding(crate::specs::State::kind_of))]
+impl From<u64> for Kind {
+    ghost from_gives = { λ word kind. kind ≡ defined.kind_of word };
+
+    fn from(word: u64) -> Kind {
+        match word {
+            0 => Kind::Unset,
+            1 => Kind::Mixed,
+            2 => Kind::Plain,
+            3 => Kind::Record,
+            _ => Kind::Stack,
+        }
+    }
+}
+
+#[tactic(auto, unfolding(crate::specs::State::word_of))]
+impl From<Kind> for u64 {
+    ghost from_gives = { λ kind word. word ≡ defined.word_of kind };
+
+    fn from(kind: Kind) -> u64 {
+        kind as u64
+    }
+}
+
+#[tactic(auto, unfolding(crate::specs::State::joined_kind))]
+fn joined_kind(u: Kind, v: Kind) -> Kind
+    ensures { result ≡ defined.joined_kind u v }
+{
+    match (u, v) {
+        (Kind::Unset, _) | (_, Kind::Unset) => Kind::Unset,
+        (Kind::Plain, Kind::Plain) => Kind::Plain,
+        (Kind::Record, Kind::Record) => Kind::Record,
+        (Kind::Stack, Kind::Stack) => Kind::Stack,
+        _ => Kind::Mixed,
+    }
+}
+
+// A value; where nothing may be used of it, the number says nothing.
 #[derive(Clone, Copy)]
 pub struct Held {
-    pub kind: u64,
+    pub kind: Kind,
     pub number: Number,
 }
 
-// What the words of a value say: that it is one number, or not so much.
-#[derive(Clone, Copy)]
-pub enum Single {
-    One(u64),
-    Open,
-}
+impl Held {
+    #[tactic(auto, unfolding(crate::specs::State::held_in, crate::specs::State::of_kind))]
+    pub fn plain(number: Number) -> Held
+        ensures { held_in result ≡ Value.Plain number }
+    {
+        Held {
+            kind: Kind::Plain,
+            number,
+        }
+    }
 
-// And those of two values.
-#[derive(Clone, Copy)]
-pub enum Singles {
-    Both { first: u64, second: u64 },
-    Open,
-}
+    #[tactic(auto, unfolding(crate::specs::State::unset))]
+    pub fn unset() -> Held
+        ensures { result ≡ defined.unset }
+    {
+        Held {
+            kind: Kind::Unset,
+            number: exactly(0),
+        }
+    }
 
-pub fn plain(n: Number) -> Held
-    ensures { held_in result ≡ Value.Plain n }
-{
-    Held { kind: 2, number: n }
-}
-
-fn joined_kind(u: u64, v: u64) -> u64
-    ensures { result ≡ joined_kind u v }
-{
-    if (u == 0) | (v == 0) {
-        return 0;
-    }
-    if (u == 1) | (v == 1) {
-        return 1;
-    }
-    if (u == 2) & (v == 2) {
-        return 2;
-    }
-    if (u == 3) & (v == 3) {
-        return 3;
-    }
-    if (3 < u) & (3 < v) {
-        return 4;
-    }
-    1
-}
-
-pub fn join_held(u: Held, v: Held) -> Held
-    ensures { held_in result ≡ joined_value (held_in u) (held_in v) }
-{
-    let a = u.number;
-    let b = v.number;
-    let kind = joined_kind(u.kind, v.kind);
-    if kind < 2 {
-        return Held { kind, number: a };
-    }
-    Held {
-        kind,
-        number: join(a, b),
+    #[tactic(auto, using(crate::proofs::ByKind::kinds_are_joined), unfolding(crate::specs::State::held_in))]
+    pub fn join(self, other: Held) -> Held
+        ensures { held_in result ≡ joined_value (held_in self) (held_in other) }
+    {
+        let kind = joined_kind(self.kind, other.kind);
+        match kind {
+            Kind::Unset | Kind::Mixed => Held {
+                kind,
+                number: self.number,
+            },
+            _ => Held {
+                kind,
+                number: join(self.number, other.number),
+            },
+        }
     }
 }

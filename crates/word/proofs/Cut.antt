@@ -1,6 +1,6 @@
--- The laws of `cut`: the low w bits of a number, of a product and of a difference, and the product of two words by their halves.
-use Rattle.std.proofs.Common.{◌≡◌, ℕ, ◌+◌, ◌-◌, ◌*◌, ◌/◌, ◌%◌, ◌^◌, ◌<◌, ◌≤◌, sym, ap, ◌∙◌, ap₂, lt_of_le_of_lt, mod-lt, mod-eq_of_lt, mul_comm, mul-le-mul, div-add-mod', arith, lit<, pow_pos}
-use native.Mathlib.Nat.{mod-mod, add-mod-mod, add-mul-mod_self_right}
+-- The laws of `cut`: the low w bits of a number, of a product and of a difference.
+use Rattle.std.proofs.Common.{◌≡◌, ℕ, ◌+◌, ◌-◌, ◌*◌, ◌/◌, ◌%◌, ◌^◌, ◌<◌, ◌≤◌, sym, ap, ◌∙◌, mod-lt, mod-eq_of_lt, mul_comm, div-add-mod', arith, pow_pos}
+use native.Mathlib.Nat.{mod-mod, add-mul-mod_self_right}
 use lib.Pow.{mod-mod-pow}
 use Rattle.word.specs.Word.{cut}
 
@@ -40,22 +40,3 @@ product_mod a b m =
 -- what a subtraction that wraps gives: the number that makes d with s
 pub difference : (r d s : ℕ) → r < 2 ^ 64 → d < 2 ^ 64 → s < 2 ^ 64 → (r + s) % 2 ^ 64 ≡ d → r ≡ (d + (2 ^ 64 - s)) % 2 ^ 64
 difference r d s hr hd hs e = omega arith
-
--- ---- a product of words by their halves of 32 bits
-
-pub product_fits : {a b : ℕ} → a < 2 ^ 32 → b < 2 ^ 32 → a * b < 2 ^ 64
-product_fits {a} {b} ha hb =
-    lt_of_le_of_lt (mul-le-mul {n₁ = a} {m₁ = b} {n₂ = 4294967295} {m₂ = 4294967295} (omega arith) (omega arith)) (lit< tt)
-
-halves : (d0 d1 s0 s1 : ℕ)
-    → (d0 * s0 + ((d1 * s0 + d0 * s1) % 2 ^ 64 * 2 ^ 32) % 2 ^ 64) % 2 ^ 64 ≡ ((d1 * 2 ^ 32 + d0) * (s1 * 2 ^ 32 + s0)) % 2 ^ 64
-halves d0 d1 s0 s1 =
-    add-mod-mod (d0 * s0) ((d1 * s0 + d0 * s1) % 2 ^ 64 * 2 ^ 32) (2 ^ 64)
-    ∙ sym (add-mul-mod_self_right (d0 * s0 + (d1 * s0 + d0 * s1) % 2 ^ 64 * 2 ^ 32) ((d1 * s0 + d0 * s1) / 2 ^ 64 * 2 ^ 32 + d1 * s1) (2 ^ 64))
-    ∙ ap (λ (x : ℕ). x % 2 ^ 64) (omega arith)
-
-pub product_by_halves : (d s : ℕ)
-    → (d % 2 ^ 32 * (s % 2 ^ 32) + ((d / 2 ^ 32 * (s % 2 ^ 32) + d % 2 ^ 32 * (s / 2 ^ 32)) % 2 ^ 64 * 2 ^ 32) % 2 ^ 64) % 2 ^ 64 ≡ (d * s) % 2 ^ 64
-product_by_halves d s =
-    halves (d % 2 ^ 32) (d / 2 ^ 32) (s % 2 ^ 32) (s / 2 ^ 32)
-    ∙ ap₂ (λ (x y : ℕ). (x * y) % 2 ^ 64) (div-add-mod' d (2 ^ 32)) (div-add-mod' s (2 ^ 32))

@@ -1,13 +1,12 @@
 // Words of 64 and 32 bits: the operations and the comparisons that the machine has and the analysis speaks of.
-// Each function gives what `specs/Word.antt` defines for its width, on any two words.
+// Each function gives what `specs/Word.antt` defines, at any width and on any two words.
 #![tactic(auto)]
 
-pub mod arithmetic32;
-pub mod arithmetic64;
+pub mod arithmetic;
 pub mod by_name;
-pub mod order32;
-pub mod order64;
+pub mod order;
 pub mod sign;
+pub mod width;
 
 #[derive(Clone, Copy)]
 pub enum Operation {

@@ -1,16 +1,26 @@
-// Signs: the low bits of a word extended to 64 bits, each by one addition and one subtraction of half the range.
-// Each contract is `extend` at its width.
-ghost use Rattle.std.specs.Prelude.{◌≡◌};
-ghost use Rattle.word.specs.Word.{extend};
+// Signs: words moved by half their range, so that one comparison of words compares them as signed numbers, and the low bits of a word extended
+// to 64 bits, by one addition and one subtraction of half the range.
+ghost use Rattle.std.specs.Prelude.{◌≡◌, ◌-◌, ◌^◌};
+ghost use Rattle.word.specs.Word.{cut, extend, moved};
 
-pub fn extend16(x: u64) -> u64
-    ensures { result ≡ extend 16 x }
+use crate::width::Width;
+
+// Half the range of a word.
+fn half<W: Width>() -> u64
+    ensures { result ≡ 2 ^ (W.BITS - 1) }
 {
-    std::num::wrapping_sub_u64((x % 65536 + 32768) % 65536, 32768)
+    1 << (W::BITS - 1)
 }
 
-pub fn extend32(x: u64) -> u64
-    ensures { result ≡ extend 32 x }
+#[tactic(auto, unfolding(crate::specs::Word::moved, crate::specs::Word::cut))]
+pub(crate) fn moved<W: Width>(x: u64) -> u64
+    ensures { result ≡ moved W.BITS (cut W.BITS x) }
 {
-    std::num::wrapping_sub_u64((x % 4294967296 + 2147483648) % 4294967296, 2147483648)
+    W::cut(W::cut(x).wrapping_add(half::<W>()))
+}
+
+pub fn extend<W: Width>(x: u64) -> u64
+    ensures { result ≡ extend W.BITS x }
+{
+    moved::<W>(x).wrapping_sub(half::<W>())
 }

@@ -1,13 +1,8 @@
--- A number that is not 0 has less than 64 zeros above its highest bit, and 0 has 64.
-use mathlib.Core.Path.{refl, sym, ap, ◌∙◌}
+-- 0 has 64 zeros above its highest bit.
+use Rattle.std.proofs.Common.{sym, ap, ◌∙◌}
 use Rattle.known_bits.proofs.Covering.{up_to_none}
 use Rattle.known_bits.specs.Formula.{up_to}
 use Rattle.bit_calculator.proofs.masks.up_to.Goals as goal
 
 pub returns-then-t-eq0 : goal.returns-then-t-eq0
-unfolding up_to
 returns-then-t-eq0 c = sym (ap up_to c.if-t-eq0.true ∙ up_to_none)
-
-pub returns : goal.returns
-unfolding up_to
-returns c = refl

@@ -1,8 +1,9 @@
--- `operand` at either width: a word is its own low 64 bits.
-use native.Mathlib.Omega.{arith}
-use mathlib.Core.Path.{◌∙◌}
-use Rattle.calculator.proofs.Words.{word_modulo_64_bits}
+-- `operand` is what the range and the known bits tell.
+use Rattle.word.specs.Word.{cut}
+use Rattle.number.specs.Compare.{common}
+use Rattle.number.specs.Computed.{modulo}
 use Rattle.calculator.proofs.operation.operand.Goals as goal
 
-pub returns-then-wide : goal.returns-then-wide
-returns-then-wide c = rw c.if-wide.true (c.narrow.ensures ∙ word_modulo_64_bits c.args.n (omega arith) (omega arith) (omega arith) (omega arith))
+pub returns : goal.returns
+unfolding modulo common cut
+returns g c = rw (c.share.ensures, c.low.ensures, c.cut.ensures, c.cut-2.ensures, c.top.ensures)

@@ -1,12 +1,10 @@
 -- `shift_fits` by whether the count is one of a word.
-use native.Mathlib.Omega.{arith}
-use Prim.Native.Nat.{◌^◌}
-use lib.Pow.{pow_pos}
-use Rattle.calculator.proofs.Fitting.{product_fits_by_quotient, only_zero_is_shifted_far}
+use Rattle.std.proofs.Common.{arith}
+use Rattle.calculator.proofs.Fitting.{fits_if_shifted_back, only_zero_is_shifted_far}
 use Rattle.calculator.proofs.range.shift_fits.Goals as goal
 
-pub returns-then-n-ge64 : goal.returns-then-n-ge64
-returns-then-n-ge64 c = only_zero_is_shifted_far c.args.x c.args.n (omega arith)
+pub returns-then-n-lt64 : goal.returns-then-n-lt64
+returns-then-n-lt64 c = fits_if_shifted_back c.args.x c.args.n
 
-pub returns : goal.returns
-returns c = product_fits_by_quotient c.args.x (2 ^ c.args.n) (pow_pos c.args.n)
+pub returns-else-n-lt64 : goal.returns-else-n-lt64
+returns-else-n-lt64 c = only_zero_is_shifted_far c.args.x c.args.n (omega arith)

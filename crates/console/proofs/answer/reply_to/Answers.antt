@@ -1,19 +1,19 @@
--- `reply_to` replies by the verb, by one law for each way out.
-use mathlib.Core.Path.{◌∙◌}
-use Rattle.console.proofs.Replies.{verb_is, reply_run, reply_verify, reply_none, replied_long, replied_bits, replied_other}
+-- `reply_to` replies by the verb.
+use Rattle.std.proofs.Common.{rules}
+use Rattle.console.proofs.Replies.{replied_long, replied_by}
 use Rattle.console.proofs.answer.reply_to.Goals as goal
 
 pub returns-then-line-gt-LONGEST : goal.returns-then-line-gt-LONGEST
 returns-then-line-gt-LONGEST c = replied_long _ _ _ _ _ c.if-line-gt-LONGEST.true
 
-pub returns-then-is_word : goal.returns-then-is_word
-returns-then-is_word c = replied_bits _ _ _ _ _ _ _ c.next_word-verb.ensures _ (verb_is _ c.if-line-gt-LONGEST.false _ _ c.next_word-verb.ensures _ _ c.is_word.ensures ∙ c.if-is_word.true) c.bits.ensures
+pub returns-in_err-named : goal.returns-in_err-named
+returns-in_err-named c = replied_by _ _ _ _ _ c.if-line-gt-LONGEST.false _ (rw c.take.ensures.word at c.named.ensures) _ (rw c.in_err-named.was (search rules))
 
-pub returns-then-is_word-2 : goal.returns-then-is_word-2
-returns-then-is_word-2 c = replied_other _ _ _ _ _ (verb_is _ c.if-line-gt-LONGEST.false _ _ c.next_word-verb.ensures _ _ c.is_word.ensures ∙ c.if-is_word.false) _ (reply_run _ _ _ _ _ _ _ c.next_word-verb.ensures _ (verb_is _ c.if-line-gt-LONGEST.false _ _ c.next_word-verb.ensures _ _ c.is_word-2.ensures ∙ c.if-is_word-2.true) c.run.ensures)
+pub returns-in-Bits : goal.returns-in-Bits
+returns-in-Bits c = replied_by _ _ _ _ _ c.if-line-gt-LONGEST.false _ (rw c.take.ensures.word at c.named.ensures) _ (rw (c.in_ok-named.was, c.in-Bits.is) (rw c.take.ensures.rest at c.bits.ensures))
 
-pub returns-then-is_word-3 : goal.returns-then-is_word-3
-returns-then-is_word-3 c = replied_other _ _ _ _ _ (verb_is _ c.if-line-gt-LONGEST.false _ _ c.next_word-verb.ensures _ _ c.is_word.ensures ∙ c.if-is_word.false) _ (reply_verify _ _ _ _ _ _ _ c.next_word-verb.ensures _ (verb_is _ c.if-line-gt-LONGEST.false _ _ c.next_word-verb.ensures _ _ c.is_word-2.ensures ∙ c.if-is_word-2.false) (verb_is _ c.if-line-gt-LONGEST.false _ _ c.next_word-verb.ensures _ _ c.is_word-3.ensures ∙ c.if-is_word-3.true) c.verify.ensures)
+pub returns-in-Run : goal.returns-in-Run
+returns-in-Run c = replied_by _ _ _ _ _ c.if-line-gt-LONGEST.false _ (rw c.take.ensures.word at c.named.ensures) _ (rw (c.in_ok-named.was, c.in-Run.is) (rw c.take.ensures.rest at c.run.ensures))
 
-pub returns : goal.returns
-returns c = replied_other _ _ _ _ _ (verb_is _ c.if-line-gt-LONGEST.false _ _ c.next_word-verb.ensures _ _ c.is_word.ensures ∙ c.if-is_word.false) _ (reply_none _ _ _ _ _ (verb_is _ c.if-line-gt-LONGEST.false _ _ c.next_word-verb.ensures _ _ c.is_word-2.ensures ∙ c.if-is_word-2.false) (verb_is _ c.if-line-gt-LONGEST.false _ _ c.next_word-verb.ensures _ _ c.is_word-3.ensures ∙ c.if-is_word-3.false))
+pub returns-in-Verify : goal.returns-in-Verify
+returns-in-Verify c = replied_by _ _ _ _ _ c.if-line-gt-LONGEST.false _ (rw c.take.ensures.word at c.named.ensures) _ (rw (c.in_ok-named.was, c.in-Verify.is) (rw c.take.ensures.rest at c.verify.ensures))

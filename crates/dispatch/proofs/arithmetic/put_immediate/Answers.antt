@@ -4,14 +4,14 @@ use borrow.Author.Tests.{lt-leb}
 use Rattle.dispatch.proofs.Answers.{unfit, writing, reading, stops, passes, told}
 use Rattle.dispatch.proofs.arithmetic.put_immediate.Goals as goal
 
-pub returns-then-not-off-src : goal.returns-then-not-off-src
-returns-then-not-off-src c = λ m. stops _ _ _ (unfit c.if-not-off-src.true) _ _ m (search rules) _ _ _
+pub returns-then-not-f : goal.returns-then-not-f
+returns-then-not-f c = λ m. stops _ _ _ (unfit c.if-not-f.true) _ _ m (search rules) _ _ _
 
-pub returns-then-dst-ge10 : goal.returns-then-dst-ge10
-returns-then-dst-ge10 c = λ m. stops _ _ _ (writing (le-leb 10 _ c.if-dst-ge10.true)) _ _ m (search rules) _ _ _
+pub returns-then-f-ge10 : goal.returns-then-f-ge10
+returns-then-f-ge10 c = λ m. stops _ _ _ (writing (le-leb 10 _ c.if-f-ge10.true)) _ _ m (search rules) _ _ _
 
 pub returns-then-not-has : goal.returns-then-not-has
 returns-then-not-has c = λ m. stops _ _ _ (reading (told _ _ _ c.has.ensures (ap not c.if-not-has.true))) _ _ m (search rules) _ _ _
 
 pub returns : goal.returns
-returns c = λ m. passes _ _ _ c.if-not-off-src.false (lt-leb 10 _ c.if-dst-ge10.false) (told _ _ _ c.has.ensures (ap not c.if-not-has.false)) (c.change.ensures m)
+returns c = λ m. passes _ _ _ c.if-not-f.false (lt-leb 10 _ c.if-f-ge10.false) (told _ _ _ c.has.ensures (ap not c.if-not-has.false)) (c.change.ensures m)

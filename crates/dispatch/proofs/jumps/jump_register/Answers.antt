@@ -3,8 +3,8 @@ use Rattle.std.proofs.Common.{refl, ap, not, ne_eqb, eq-eqb}
 use Rattle.dispatch.proofs.Answers.{unfit, reading, stops, passes, told, first_unset, second_unset, both_set}
 use Rattle.dispatch.proofs.jumps.jump_register.Goals as goal
 
-pub returns-then-not-imm : goal.returns-then-not-imm
-returns-then-not-imm c = λ g m e. stops _ _ _ (unfit (ne_eqb _ _ c.if-not-imm.true)) _ _ m e _ _ _
+pub returns-then-f-ne0 : goal.returns-then-f-ne0
+returns-then-f-ne0 c = λ g m e. stops _ _ _ (unfit (ne_eqb _ _ c.if-f-ne0.true)) _ _ m e _ _ _
 
 pub returns-then-not-has : goal.returns-then-not-has
 returns-then-not-has c = λ g m e. stops _ _ _ (reading (first_unset _ _ (told _ _ _ c.has.ensures (ap not c.if-not-has.true)))) _ _ m e _ _ _
@@ -13,4 +13,4 @@ pub returns-then-not-has-2 : goal.returns-then-not-has-2
 returns-then-not-has-2 c = λ g m e. stops _ _ _ (reading (second_unset _ _ (told _ _ _ c.has.ensures (ap not c.if-not-has.false)) (told _ _ _ c.has-2.ensures (ap not c.if-not-has-2.true)))) _ _ m e _ _ _
 
 pub returns : goal.returns
-returns c = λ g m e. passes _ _ _ (eq-eqb _ _ c.if-not-imm.false) refl (both_set _ _ (told _ _ _ c.has.ensures (ap not c.if-not-has.false)) (told _ _ _ c.has-2.ensures (ap not c.if-not-has-2.false))) (c.go.ensures g m e)
+returns c = λ g m e. passes _ _ _ (eq-eqb _ _ c.if-f-ne0.false) refl (both_set _ _ (told _ _ _ c.has.ensures (ap not c.if-not-has.false)) (told _ _ _ c.has-2.ensures (ap not c.if-not-has-2.false))) (c.go.ensures g m e)

@@ -9,14 +9,14 @@ unfolding address
 returns-then-store c rec P g e =
     leads_to
     (store_made _ g _ _ _ _ _ _
-    (rw (← c.extend16.ensures, ← c.wrapping_add_u64-a.ensures.value) (sym c.store.ensures.allowed ∙ c.if-store.true))
+    (rw (← c.extend.ensures) (sym c.store.ensures.allowed ∙ c.if-store.true))
     _
-    (rw (← c.extend16.ensures, ← c.wrapping_add_u64-a.ensures.value) (simp c.if-store.true at c.store.ensures.made)))
-    (leads_go _ _ _ _ _ e _ _ _ _ c.requires.mask_low refl)
+    (rw (← c.extend.ensures) (simp c.if-store.true at c.store.ensures.made)))
+    (leads_go _ _ _ _ _ e _ _ _ _ c.args.at.kept.mask_low refl)
 
 pub returns : goal.returns
 unfolding address
 returns c rec P g e =
     leads_to
-    (store_barred _ g _ _ _ _ _ _ (rw (← c.extend16.ensures, ← c.wrapping_add_u64-a.ensures.value) (sym c.store.ensures.allowed ∙ c.if-store.false)))
+    (store_barred _ g _ _ _ _ _ _ (rw (← c.extend.ensures) (sym c.store.ensures.allowed ∙ c.if-store.false)))
     (rw (simp c.if-store.false at c.store.ensures.made) (leads_fault _ _ _ _ _ e _))

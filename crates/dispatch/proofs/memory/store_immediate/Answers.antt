@@ -3,12 +3,12 @@ use Rattle.std.proofs.Common.{refl, ap, not, ne_eqb, eq-eqb}
 use Rattle.dispatch.proofs.Answers.{unfit, reading, stops, passes, told}
 use Rattle.dispatch.proofs.memory.store_immediate.Goals as goal
 
-pub returns-then-not-src : goal.returns-then-not-src
-returns-then-not-src c rec P g e = stops _ _ _ (unfit (ne_eqb _ _ c.if-not-src.true)) _ _ _ e _ _ _
+pub returns-then-f-ne0 : goal.returns-then-f-ne0
+returns-then-f-ne0 c rec P g e = stops _ _ _ (unfit (ne_eqb _ _ c.if-f-ne0.true)) _ _ _ e _ _ _
 
 pub returns-then-not-has : goal.returns-then-not-has
 returns-then-not-has c rec P g e = stops _ _ _ (reading (told _ _ _ c.has.ensures (ap not c.if-not-has.true))) _ _ _ e _ _ _
 
 pub returns : goal.returns
 returns c rec P g e =
-    passes _ _ _ (eq-eqb _ _ c.if-not-src.false) refl (told _ _ _ c.has.ensures (ap not c.if-not-has.false)) (c.store_at.ensures rec P g e)
+    passes _ _ _ (eq-eqb _ _ c.if-f-ne0.false) refl (told _ _ _ c.has.ensures (ap not c.if-not-has.false)) (c.store_at.ensures rec P g e)

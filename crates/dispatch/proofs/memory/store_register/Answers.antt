@@ -3,8 +3,8 @@ use Rattle.std.proofs.Common.{refl, ap, not, ne_eqb, eq-eqb}
 use Rattle.dispatch.proofs.Answers.{unfit, reading, stops, passes, told, first_unset, second_unset, both_set}
 use Rattle.dispatch.proofs.memory.store_register.Goals as goal
 
-pub returns-then-not-imm : goal.returns-then-not-imm
-returns-then-not-imm c rec P g e = stops _ _ _ (unfit (ne_eqb _ _ c.if-not-imm.true)) _ _ _ e _ _ _
+pub returns-then-f-ne0 : goal.returns-then-f-ne0
+returns-then-f-ne0 c rec P g e = stops _ _ _ (unfit (ne_eqb _ _ c.if-f-ne0.true)) _ _ _ e _ _ _
 
 pub returns-then-not-has : goal.returns-then-not-has
 returns-then-not-has c rec P g e =
@@ -16,6 +16,6 @@ returns-then-not-has-2 c rec P g e =
 
 pub returns : goal.returns
 returns c rec P g e =
-    passes _ _ _ (eq-eqb _ _ c.if-not-imm.false) refl
+    passes _ _ _ (eq-eqb _ _ c.if-f-ne0.false) refl
     (both_set _ _ (told _ _ _ c.has.ensures (ap not c.if-not-has.false)) (told _ _ _ c.has-2.ensures (ap not c.if-not-has-2.false)))
     (c.store_at.ensures rec P g e)

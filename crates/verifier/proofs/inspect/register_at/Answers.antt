@@ -1,6 +1,6 @@
--- `register_at`: scratch memory that is too short tells nothing; otherwise the mark says whether a path comes.
-use mathlib.Core.Path.{◌∙◌}
-use native.Mathlib.Omega.{arith}
+-- Scratch memory that is too short tells nothing; otherwise the mark says whether a path comes.
+use Rattle.std.proofs.Common.{sym, ◌∙◌, arith, eqb-true}
+use borrow.Author.Tests.{eqb-false}
 use Rattle.waiting.specs.Layout.{words}
 use Rattle.verifier.proofs.Inspecting.{outside_nothing_is_known, unmarked_nothing_is_known, marked_a_register_is_known}
 use Rattle.verifier.proofs.inspect.register_at.Goals as goal
@@ -13,10 +13,12 @@ pub returns-then-n-i : goal.returns-then-n-i
 unfolding words
 returns-then-n-i c = λ h. outside_nothing_is_known _ _ _ _ c.if-n-i.true
 
-pub returns-then-scratch-i-ne1 : goal.returns-then-scratch-i-ne1
+pub returns-then-not-waits_at : goal.returns-then-not-waits_at
 unfolding words
-returns-then-scratch-i-ne1 c = λ h. unmarked_nothing_is_known _ _ _ _ c.if-scratch-i-ne1.true
+returns-then-not-waits_at c = λ h. unmarked_nothing_is_known _ _ _ _ (eqb-false _ _ (sym c.waits_at.ensures ∙ c.if-not-waits_at.true))
 
 pub returns : goal.returns
 unfolding words
-returns c = λ h. marked_a_register_is_known _ _ _ _ _ c.if-n-i.false c.if-scratch-i-ne1.false (c.value_of.ensures ∙ c.register.ensures.value)
+returns c =
+    let value = rw (c.state_at.ensures.0, c.state_at.ensures.1) at c.register.ensures.value in
+    λ h. marked_a_register_is_known _ _ _ _ _ c.if-n-i.false (eqb-true _ _ (sym c.waits_at.ensures ∙ c.if-not-waits_at.false)) (c.value_of.ensures ∙ value)

@@ -1,11 +1,7 @@
-use Prim.Native.Nat.{◌-◌}
-use mathlib.Core.Path.{◌≡◌}
-use lib.ListN.{length}
+-- The pass from index i on ends as the whole does.
+use Rattle.std.proofs.Common.{◌≡◌, length}
 use Rattle.verifier.proofs.Steps.{Passing}
 use Rattle.verifier.proofs.pass.follow.Given as goal
 
 abbrev pub invariant-loop-i : goal.invariant-loop-i
-invariant-loop-i l = (length l.m ≡ length l.initial.m) × Passing l.program l.rlen l.n l.i l.m l.work
-
-abbrev pub decreases-loop-i : goal.decreases-loop-i
-decreases-loop-i l = l.n - l.i
+invariant-loop-i l = record { size : length l.m ≡ length l.initial.m; passing : Passing l.program l.rlen l.n l.i l.m l.work }

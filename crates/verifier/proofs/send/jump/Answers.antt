@@ -1,7 +1,9 @@
--- `jump`: two known numbers go one way; others fork.
+-- Two known numbers go one way.
+use Rattle.std.proofs.Common.{rules}
 use Rattle.verifier.proofs.Singles.{both_are_told, a_decided_jump_is_sent}
-use borrow.Author.Rules.{rules}
 use Rattle.verifier.proofs.send.jump.Goals as goal
 
-pub returns-in-Both : goal.returns-in-Both
-returns-in-Both c = a_decided_jump_is_sent _ _ _ _ _ _ _ _ _ _ _ _ _ _ (both_are_told _ _ c.in-Both.is c.singles_at.ensures) c.is_taken.ensures c.turn.ensures (search rules) (search rules)
+pub returns-in-Some : goal.returns-in-Some
+returns-in-Some c =
+    let s = rw (c.state_at.ensures.0, c.state_at.ensures.1) at c.singles.ensures in
+    a_decided_jump_is_sent _ _ _ _ _ _ _ _ _ _ _ _ _ _ (both_are_told _ _ c.in-Some.is s) c.is_taken-taken.ensures c.turn.ensures (search rules) (search rules)

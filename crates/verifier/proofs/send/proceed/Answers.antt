@@ -1,24 +1,22 @@
--- `proceed`: each code is an equation of the definition.
-use mathlib.Core.Path.{refl}
-use borrow.Author.Rules.{rules}
-use borrow.Author.Tests.{ne_eqb}
+-- Each outcome is an equation of the definition.
+use Rattle.std.proofs.Common.{refl}
 use Rattle.analysis.specs.Judged.{distribute, apply, and_then, send}
 use Rattle.verifier.specs.Outcome.{effect_in}
 use Rattle.verifier.proofs.Steps.{halting_changes_nothing, going_on_changes_nothing, a_step_with_no_second}
 use Rattle.verifier.proofs.send.proceed.Goals as goal
 
-pub returns-then-o-eq0 : goal.returns-then-o-eq0
-unfolding distribute apply effect_in and_then send
-returns-then-o-eq0 c = search rules
+pub returns-in-Put : goal.returns-in-Put
+unfolding distribute apply effect_in
+returns-in-Put c = rw (c.in-Ok.is, c.in-Put.is) (a_step_with_no_second _ _ _ _ _ _ c.put_next.ensures)
 
-pub returns-then-o-eq1 : goal.returns-then-o-eq1
-unfolding distribute apply effect_in and_then send
-returns-then-o-eq1 c = rw c.if-o-eq1.true (a_step_with_no_second _ _ _ _ _ _ c.send.ensures)
+pub returns-in-Keep : goal.returns-in-Keep
+unfolding distribute apply effect_in
+returns-in-Keep c = rw (c.in-Ok.is, c.in-Keep.is) (a_step_with_no_second _ _ _ _ _ _ c.send.ensures)
 
-pub returns-then-o-eq2 : goal.returns-then-o-eq2
+pub returns-in-Stop : goal.returns-in-Stop
 unfolding distribute apply effect_in and_then send
-returns-then-o-eq2 c = rw c.if-o-eq2.true (going_on_changes_nothing _ _ _ _ _ refl)
+returns-in-Stop c = rw (c.in-Ok.is, c.in-Stop.is) (going_on_changes_nothing _ _ _ _ _ refl)
 
-pub returns : goal.returns
-unfolding distribute apply effect_in and_then send
-returns c = rw (ne_eqb _ _ c.if-o-eq0.false, ne_eqb _ _ c.if-o-eq1.false, ne_eqb _ _ c.if-o-eq2.false, c.reason_of.ensures) (halting_changes_nothing _ _ _ _ _)
+pub returns-in-Err : goal.returns-in-Err
+unfolding distribute apply effect_in
+returns-in-Err c = rw c.in-Err.is (halting_changes_nothing _ _ _ _ _)

@@ -1,7 +1,6 @@
--- `put_next`: where nothing waits the state is changed at its new place, elsewhere before it is sent.
+-- Where nothing waits the state is changed at its new place.
 use Rattle.verifier.proofs.Steps.{what_is_sent_arrives}
-use borrow.Author.Rules.{rules}
 use Rattle.verifier.proofs.send.put_next.Goals as goal
 
-pub returns-then-m-place-ne1 : goal.returns-then-m-place-ne1
-returns-then-m-place-ne1 c = what_is_sent_arrives _ _ _ _ _ _ _ (search rules) c.arrive_with.ensures
+pub returns-then-not-waits_at : goal.returns-then-not-waits_at
+returns-then-not-waits_at c = what_is_sent_arrives _ _ _ _ _ _ _ c.if-at.true c.arrive_with.ensures

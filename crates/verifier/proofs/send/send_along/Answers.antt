@@ -1,12 +1,12 @@
--- `send_along`: a way that is excluded sends nothing.
-use borrow.Author.Rules.{rules}
+-- A way that is excluded sends nothing.
+use Rattle.std.proofs.Common.{rules}
 use Rattle.analysis.specs.Judged.{send, along}
 use Rattle.verifier.proofs.send.send_along.Goals as goal
 
-pub returns-in-Excluded : goal.returns-in-Excluded
+pub returns-in-None : goal.returns-in-None
 unfolding send along
-returns-in-Excluded c = search rules
+returns-in-None c = search rules
 
-pub returns-in-Possible : goal.returns-in-Possible
+pub returns-in-Some : goal.returns-in-Some
 unfolding send along
-returns-in-Possible c = rw c.in-Possible.is c.send_with_both.ensures
+returns-in-Some c = rw c.in-Some.is c.send_with_both.ensures

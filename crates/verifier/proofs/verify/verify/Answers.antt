@@ -1,4 +1,4 @@
--- `verify`: the answer is that of `annotate`, and promises what the theorems say.
+-- The answer is that of `annotate`, and promises what the theorems say.
 use Rattle.verifier.proofs.Promise.{the_answer_promises}
 use Rattle.verifier.proofs.verify.verify.Goals as goal
 

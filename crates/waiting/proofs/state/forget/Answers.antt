@@ -1,15 +1,14 @@
--- `forget`: the first r registers are unset.
-use mathlib.Core.Path.{refl}
-use Rattle.waiting.specs.State.{held_in, of_kind, nothing_known}
-use Rattle.waiting.proofs.States.{never_known}
-use Rattle.waiting.proofs.Words.{one_more_is_stored, all_is_stored, what_is_written_is_held}
+-- `forget`: words that are 0 hold values that are unset.
+use Rattle.std.proofs.Common.{◌≡◌, ℕ, replicate, ap, ◌∙◌}
+use Rattle.waiting.specs.Layout.{state_words}
+use Rattle.waiting.proofs.Parts.{a_middle_is_replaced, length_of_a_middle}
+use Rattle.waiting.proofs.States.{nothing_is_known_of_zeros}
 use Rattle.waiting.proofs.state.forget.Goals as goal
 
-pub loop-r-preserved : goal.loop-r-preserved
-unfolding held_in of_kind
-loop-r-preserved c =
-    one_more_is_stored _ _ _ _ _ _ _ c.loop-r-test.true (never_known _) c.loop-r.invariant (what_is_written_is_held _ _ _ _ _ c.write_held.ensures refl)
-
 pub returns : goal.returns
-unfolding nothing_known
-returns c = all_is_stored _ _ _ _ c.loop-r.r refl c.loop-r-test.false c.loop-r.invariant
+returns c =
+    let m = c.args.m.now in
+    let at = c.args.at in
+    let l = length_of_a_middle m at state_words c.requires in
+    let zeros : c.fill.new.self ≡ replicate state_words 0 = c.fill.ensures.after (λ y h. h) ∙ ap (λ (n : ℕ). replicate n 0) l in
+    nothing_is_known_of_zeros m _ c.fill.new.self at zeros (a_middle_is_replaced m c.fill.new.self at state_words (c.fill.ensures.len ∙ l) c.requires)

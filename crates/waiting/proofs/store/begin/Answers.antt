@@ -4,4 +4,4 @@ use Rattle.waiting.proofs.store.begin.Goals as goal
 
 pub returns : goal.returns
 returns c =
-    the_start_waits _ _ _ _ c.requires.0 c.requires.1 c.clear.ensures c.write_start.ensures
+    rw c.block_of.ensures (the_start_waits _ _ _ _ c.requires.0 c.requires.1 c.clear.ensures (rw c.state_of.ensures at c.write_start.ensures))

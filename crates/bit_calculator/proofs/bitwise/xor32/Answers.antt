@@ -1,7 +1,0 @@
--- `xor32` is the formula.
-use Rattle.known_bits.specs.Formula.{parity}
-use Rattle.bit_calculator.proofs.bitwise.xor32.Goals as goal
-
-pub returns : goal.returns
-unfolding parity
-returns c = cc
