@@ -26,11 +26,8 @@ impl<'a> Place<'a> {
 
     // The bytes of the instruction; past the program there are none.
     pub(crate) fn bytes(self) -> &'a [u8] {
-        self.annotated
-            .program
-            .chunks_exact(8)
-            .nth(self.index)
-            .unwrap_or(&[])
+        let rest = self.annotated.program.get(self.index.saturating_mul(8)..);
+        rest.and_then(|rest| rest.get(..8)).unwrap_or(&[])
     }
 
     pub(crate) fn instruction(self) -> Instruction {

@@ -46,11 +46,17 @@ fn write_meaning(page: &mut Page, bytes: &[u8])
     }
 }
 
+// The bytes of index i: eight, or the fewer that a program ends in, or past it none.
+fn bytes_at(program: &[u8], i: usize) -> &[u8] {
+    let rest = program.get(i.saturating_mul(8)..).unwrap_or(&[]);
+    &rest[..rest.len().min(8)]
+}
+
 // The line of index i without its end.
 pub fn write_line(page: &mut Page, program: &[u8], i: usize)
     ensures { Longer page.old page.new }
 {
-    let bytes = program.chunks(8).nth(i).unwrap_or(&[]);
+    let bytes = bytes_at(program, i);
     write_index(page, i as u64);
     page.text(b":\t");
     write_bytes(page, bytes);
