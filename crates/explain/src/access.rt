@@ -1,5 +1,6 @@
 // A load or store that is refused: which bytes it might touch, and what would help.
 ghost use Rattle.std.specs.Prelude.{◌≤◌};
+ghost use Rattle.text.specs.Page.{Longer};
 
 use crate::note::{write_count, write_note};
 use crate::place::Place;
@@ -17,6 +18,7 @@ use word::width::W64;
 // How far the bytes reach, where the last offset is no negative number, and how many bytes there are.
 fn write_limit(page: &mut Page, place: Place, region: Region, hi: u64, count: u64)
     requires { count ≤ 8 }
+    ensures { Longer page.old page.new }
 {
     if hi < 1 << 63 {
         page.number(b", up to byte ", hi + count, b"");
@@ -48,7 +50,10 @@ struct Access {
 
 impl Access {
     // The bytes at any of the offsets that the analysis tests: what is known of the base, and off added.
-    fn write_bytes(self, page: &mut Page, place: Place, verb: &[u8], region: Region, base: Number) {
+    #[tactic(auto, using(text::proofs::Pages::longer_wrote))]
+    fn write_bytes(self, page: &mut Page, place: Place, verb: &[u8], region: Region, base: Number)
+        ensures { Longer page.old page.new }
+    {
         let offset = alu::<W64>(Operation::Add, base, exactly(self.off));
         write_note(page, verb);
         write_count(page, self.count);
@@ -58,7 +63,9 @@ impl Access {
         write_note(page, remedy(offset.range));
     }
 
-    fn write_load(self, page: &mut Page, place: Place, base: Value) {
+    fn write_load(self, page: &mut Page, place: Place, base: Value)
+        ensures { Longer page.old page.new }
+    {
         match base {
             Value::Unusable(_) => {}
             Value::Plain(n) => write_no_address(page, b"reads through a number (", n),
@@ -66,7 +73,9 @@ impl Access {
         }
     }
 
-    fn write_store(self, page: &mut Page, place: Place, base: Value) {
+    fn write_store(self, page: &mut Page, place: Place, base: Value)
+        ensures { Longer page.old page.new }
+    {
         match base {
             Value::Unusable(_) => {}
             Value::Plain(n) => write_no_address(page, b"writes through a number (", n),
@@ -81,7 +90,10 @@ impl Access {
     }
 }
 
-fn write_no_address(page: &mut Page, verb: &[u8], n: Number) {
+#[tactic(auto, using(text::proofs::Pages::longer_wrote))]
+fn write_no_address(page: &mut Page, verb: &[u8], n: Number)
+    ensures { Longer page.old page.new }
+{
     write_note(page, verb);
     write_value(page, Value::Plain(n));
     page.text(b"), which is no address");
@@ -92,7 +104,9 @@ fn write_no_address(page: &mut Page, verb: &[u8], n: Number) {
 }
 
 // Nothing is told where no path comes.
-pub fn write_access(page: &mut Page, place: Place) {
+pub fn write_access(page: &mut Page, place: Place)
+    ensures { Longer page.old page.new }
+{
     match place.instruction() {
         Instruction::Load { size, src, off, .. } => {
             let count = byte_count(size) as u64;

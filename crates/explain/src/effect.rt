@@ -1,17 +1,23 @@
 // What an instruction does to what is known, as text.
+ghost use Rattle.text.specs.Page.{Longer};
+
 use analysis::Effect;
 use listing::value::{write_number, write_value};
 use machine::instruction::Operand;
 use number::{Number, Refined};
 use text::page::Page;
 
-fn write_register(page: &mut Page, before: &[u8], r: u64, n: Number) {
+fn write_register(page: &mut Page, before: &[u8], r: u64, n: Number)
+    ensures { Longer page.old page.new }
+{
     page.number(before, r, b": ");
     write_number(page, n);
 }
 
 // What is left of the operands on a way. Where both are one register, what the second tells is kept.
-fn write_left(page: &mut Page, dst: u64, operand: Operand, x: Number, y: Number) {
+fn write_left(page: &mut Page, dst: u64, operand: Operand, x: Number, y: Number)
+    ensures { Longer page.old page.new }
+{
     match operand {
         Operand::Immediate(_) => write_register(page, b"r", dst, x),
         Operand::Register(s) if s == dst => write_register(page, b"r", s, y),
@@ -23,7 +29,9 @@ fn write_left(page: &mut Page, dst: u64, operand: Operand, x: Number, y: Number)
 }
 
 // A fork goes on, or jumps.
-fn write_fork(page: &mut Page, dst: u64, operand: Operand, onward: Refined, taken: Refined) {
+fn write_fork(page: &mut Page, dst: u64, operand: Operand, onward: Refined, taken: Refined)
+    ensures { Longer page.old page.new }
+{
     match onward {
         Some((x, y)) => {
             page.text(b"goes on with ");
@@ -40,7 +48,9 @@ fn write_fork(page: &mut Page, dst: u64, operand: Operand, onward: Refined, take
     }
 }
 
-pub fn write_effect(page: &mut Page, effect: Effect) {
+pub fn write_effect(page: &mut Page, effect: Effect)
+    ensures { Longer page.old page.new }
+{
     page.text(b"-> ");
     match effect {
         Effect::Refuse(_) => page.text(b"refused"),

@@ -1,4 +1,6 @@
 // A register that may not be read as an instruction reads it: it is unset, mixed, or holds an address; and what would help.
+ghost use Rattle.text.specs.Page.{Longer};
+
 use crate::known::write_told;
 use crate::note::{start_note, write_note};
 use crate::place::Place;
@@ -60,7 +62,9 @@ fn is_address(place: Place, r: u64) -> bool {
 }
 
 // The first of the registers read that is unset.
-pub fn write_unset_read(page: &mut Page, place: Place) {
+pub fn write_unset_read(page: &mut Page, place: Place)
+    ensures { Longer page.old page.new }
+{
     let Some((r, second)) = reads_of(place.instruction()) else {
         return;
     };
@@ -78,7 +82,9 @@ pub fn write_unset_read(page: &mut Page, place: Place) {
     write_note(page, b"help: set it on every path before this");
 }
 
-fn write_mixed(page: &mut Page, r: u64) {
+fn write_mixed(page: &mut Page, r: u64)
+    ensures { Longer page.old page.new }
+{
     start_note(page);
     page.number(
         b"r",
@@ -91,7 +97,10 @@ fn write_mixed(page: &mut Page, r: u64) {
     );
 }
 
-fn write_address(page: &mut Page, place: Place, r: u64, used: Use) {
+#[tactic(auto, using(text::proofs::Pages::longer_wrote))]
+fn write_address(page: &mut Page, place: Place, r: u64, used: Use)
+    ensures { Longer page.old page.new }
+{
     start_note(page);
     page.number(b"r", r, b" holds an address (");
     write_told(page, place.known(r));
@@ -100,7 +109,9 @@ fn write_address(page: &mut Page, place: Place, r: u64, used: Use) {
 }
 
 // Of the registers read the first that is mixed, or else the first that is an address where none may be: a store's first is one rightly.
-pub fn write_leak(page: &mut Page, place: Place) {
+pub fn write_leak(page: &mut Page, place: Place)
+    ensures { Longer page.old page.new }
+{
     let Some((r, second)) = reads_of(place.instruction()) else {
         return;
     };

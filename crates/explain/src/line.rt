@@ -3,6 +3,7 @@
 ghost use Rattle.std.specs.Prelude.{◌≡◌};
 ghost use Rattle.analysis.specs.Judged.{on_values};
 ghost use Rattle.listing.specs.Announced.{Announced};
+ghost use Rattle.text.specs.Page.{Longer};
 
 use crate::effect::write_effect;
 use crate::joins::joined;
@@ -50,7 +51,9 @@ fn standing_of(place: Place) -> Standing {
 }
 
 // Under the line: what is known there, or why nothing is.
-fn write_standing(page: &mut Page, place: Place, standing: Standing) {
+fn write_standing(page: &mut Page, place: Place, standing: Standing)
+    ensures { Longer page.old page.new }
+{
     match standing {
         Standing::NotFollowed => {}
         Standing::NotLookedAt => write_note(page, b"not looked at"),
@@ -66,7 +69,9 @@ fn write_standing(page: &mut Page, place: Place, standing: Standing) {
 }
 
 // The line, what stands above it where ways come together, and what stands under it.
-fn write_index(page: &mut Page, place: Place, ways: &[u8]) {
+fn write_index(page: &mut Page, place: Place, ways: &[u8])
+    ensures { Longer page.old page.new }
+{
     let standing = standing_of(place);
     if matches!(standing, Standing::Reached) && joined(ways, place.index) {
         page.text(b"         \t; joined\n");

@@ -1,4 +1,6 @@
 // Why a program is refused at an index: the reason, what could happen there, and what would help.
+ghost use Rattle.text.specs.Page.{Longer};
+
 use crate::access::write_access;
 use crate::leak::{write_leak, write_unset_read};
 use crate::note::{start_note, write_count, write_note};
@@ -10,7 +12,9 @@ use reasons::{reason_number, sentence_of};
 use text::page::Page;
 
 // The rule that the bytes break, which are no instruction.
-fn write_no_code(page: &mut Page, place: Place) {
+fn write_no_code(page: &mut Page, place: Place)
+    ensures { Longer page.old page.new }
+{
     let bytes = place.bytes();
     if !bytes.is_empty() {
         start_note(page);
@@ -18,13 +22,17 @@ fn write_no_code(page: &mut Page, place: Place) {
     }
 }
 
-fn write_last(page: &mut Page) {
+fn write_last(page: &mut Page)
+    ensures { Longer page.old page.new }
+{
     write_note(page, b"it is the last, and neither exit nor goto");
     write_note(page, b"help: end the program in exit");
 }
 
 // A jump that leads out is told by its target; what is left is the last instruction.
-fn write_jump_out(page: &mut Page, place: Place, off: u64) {
+fn write_jump_out(page: &mut Page, place: Place, off: u64)
+    ensures { Longer page.old page.new }
+{
     let target = (place.index as u64).wrapping_add(1).wrapping_add(off);
     let count = place.count() as u64;
     if target < count {
@@ -35,7 +43,9 @@ fn write_jump_out(page: &mut Page, place: Place, off: u64) {
     page.number(b"; the program ends before index ", count, b"");
 }
 
-fn write_way_out(page: &mut Page, place: Place) {
+fn write_way_out(page: &mut Page, place: Place)
+    ensures { Longer page.old page.new }
+{
     match place.instruction() {
         Instruction::Jump { off, .. } | Instruction::Always { off } => {
             write_jump_out(page, place, off);
@@ -45,7 +55,9 @@ fn write_way_out(page: &mut Page, place: Place) {
 }
 
 // Only exit and goto don't go on, and index 0 is never dead.
-fn write_dead(page: &mut Page, place: Place) {
+fn write_dead(page: &mut Page, place: Place)
+    ensures { Longer page.old page.new }
+{
     let Some(index) = place.index.checked_sub(1) else {
         return;
     };
@@ -58,7 +70,9 @@ fn write_dead(page: &mut Page, place: Place) {
     write_note(page, b"help: remove it, or jump to it");
 }
 
-fn write_why(page: &mut Page, place: Place, reason: Reason) {
+fn write_why(page: &mut Page, place: Place, reason: Reason)
+    ensures { Longer page.old page.new }
+{
     match reason {
         Reason::BadLength => {
             write_note(page, b"the program has ");
@@ -84,7 +98,9 @@ fn write_why(page: &mut Page, place: Place, reason: Reason) {
     }
 }
 
-pub fn write_refusal(page: &mut Page, place: Place, reason: Reason) {
+pub fn write_refusal(page: &mut Page, place: Place, reason: Reason)
+    ensures { Longer page.old page.new }
+{
     start_note(page);
     page.number(b"refused: reason ", reason_number(reason), b": ");
     page.text(sentence_of(reason));

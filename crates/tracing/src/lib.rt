@@ -4,6 +4,7 @@
 ghost use Rattle.std.specs.Prelude.{◌<◌, ◌^◌, length};
 ghost use Rattle.machine.specs.Ground.{world_of};
 ghost use Rattle.tracing.specs.Traced.{Steps};
+ghost use Rattle.text.specs.Page.{Longer};
 
 use dispatch::answer::Next;
 use dispatch::why::why;
@@ -30,13 +31,17 @@ pub struct Traced {
     pub cause: Cause,
 }
 
-fn write_stop(page: &mut Page, cause: Cause) {
+fn write_stop(page: &mut Page, cause: Cause)
+    ensures { Longer page.old page.new }
+{
     let fault = fault_number(cause);
     page.number(b"\t; fault ", fault, b": ");
     page.text(fault_name(fault));
 }
 
-fn write_next(page: &mut Page, before: &Registers, numbers: &[u64; 16], next: Next, cause: Cause) {
+fn write_next(page: &mut Page, before: &Registers, numbers: &[u64; 16], next: Next, cause: Cause)
+    ensures { Longer page.old page.new }
+{
     match next {
         Next::Go { pc: _, live } => {
             let numbers = *numbers;

@@ -1,18 +1,23 @@
 // What a run comes to: in a line, and as an exit status.
 ghost use Rattle.std.specs.Prelude.{◌≤◌, length};
+ghost use Rattle.text.specs.Page.{Longer};
 
 use crate::numbers::write_word;
 use machine::outcome::{Cause, Outcome};
 use reasons::{fault_name, fault_number};
 use text::page::{Page, fill};
 
-fn write_verdict(page: &mut Page, value: u64, steps: u64) {
+fn write_verdict(page: &mut Page, value: u64, steps: u64)
+    ensures { Longer page.old page.new }
+{
     page.number(b"verdict ", value, b"");
     write_word(page, b" (", value, b")");
     page.number(b" after ", steps, b" steps\n");
 }
 
-fn write_fault(page: &mut Page, cause: Cause, at: u64, steps: u64) {
+fn write_fault(page: &mut Page, cause: Cause, at: u64, steps: u64)
+    ensures { Longer page.old page.new }
+{
     let fault = fault_number(cause);
     page.number(b"fault ", fault, b" (");
     page.text(fault_name(fault));
@@ -20,7 +25,9 @@ fn write_fault(page: &mut Page, cause: Cause, at: u64, steps: u64) {
     page.number(b" after ", steps, b" steps\n");
 }
 
-fn write_outcome(page: &mut Page, outcome: Outcome) {
+fn write_outcome(page: &mut Page, outcome: Outcome)
+    ensures { Longer page.old page.new }
+{
     match outcome {
         Outcome::Verdict { value, steps } => write_verdict(page, value, steps),
         Outcome::Fault { cause, at, steps } => write_fault(page, cause, at, steps),
@@ -44,7 +51,9 @@ fn is_address(a: u64) -> bool {
     0x10000 <= a && a <= 0x8000_0000_0000
 }
 
-fn write_refusal(page: &mut Page, program: usize, rec: usize, p: u64, s: u64) {
+fn write_refusal(page: &mut Page, program: usize, rec: usize, p: u64, s: u64)
+    ensures { Longer page.old page.new }
+{
     page.text(b"probewarden: not run: ");
     if program == 0 || program % 8 != 0 || 32768 < program {
         page.number(
@@ -73,7 +82,9 @@ fn write_refusal(page: &mut Page, program: usize, rec: usize, p: u64, s: u64) {
     }
 }
 
-fn write_bad_address(page: &mut Page, option: &[u8], a: u64) {
+fn write_bad_address(page: &mut Page, option: &[u8], a: u64)
+    ensures { Longer page.old page.new }
+{
     write_word(page, option, a, b"");
     page.text(b" is not between 0x10000 and 0x800000000000\n");
 }

@@ -1,4 +1,6 @@
 // The registers before a step and after it.
+ghost use Rattle.text.specs.Page.{Longer};
+
 use crate::numbers::write_word;
 use dispatch::answer::has;
 use text::page::Page;
@@ -11,7 +13,9 @@ pub struct Registers {
 }
 
 // Each register whose number is another than before, or that had none.
-pub fn write_changes(page: &mut Page, before: &Registers, after: &Registers) {
+pub fn write_changes(page: &mut Page, before: &Registers, after: &Registers)
+    ensures { Longer page.old page.new }
+{
     for k in 0..11 {
         let register = k as u64;
         let fresh = !has(before.live, register) && has(after.live, register);
