@@ -1,5 +1,5 @@
 -- The fields of an ELF object, and what a section that holds a program is.
-use Rattle.std.specs.Prelude.{◌≡◌, Bool, true, ◌&&◌, List, ℕ, ◌+◌, ◌*◌, ◌/◌, ◌%◌, ◌≤◌, ◌<◌, length, get_or, ltb, eqb}
+use Rattle.std.specs.Prelude.{◌≡◌, Bool, true, ◌&&◌, List, ℕ, ◌+◌, ◌*◌, ◌/◌, ◌%◌, ◌≤◌, ◌<◌, length, get_or, take, drop, ltb, eqb}
 use Rattle.object.specs.declared.Section.{Section}
 
 -- the number of 2, 4 and 8 bytes at an index, lowest byte first
@@ -32,6 +32,12 @@ pub record Lies (file : List ℕ) (h : ℕ) (s : Section) : Type 0 where
   pub inside : s.start + s.length ≤ length file
   pub place : s.start ≡ word64 file (h + 24)
   pub count : s.length ≡ word64 file (h + 32)
+
+-- the names are the bytes of the section whose number the file's header has
+pub record Names (file names : List ℕ) : Type 0 where
+  pub table : Section
+  pub lies : Lies file (word64 file 40 + word16 file 62 * 64) table
+  pub bytes : names ≡ take table.length (drop table.start file)
 
 -- the bytes from start on are those of the section with this number
 pub record Holds (file : List ℕ) (number start size : ℕ) : Type 0 where

@@ -1,6 +1,7 @@
 // The names of sections: each is the text up to a 0 byte, inside of one section that holds them all.
 ghost use Rattle.std.specs.Prelude.{◌≡◌, IfSome};
 ghost use Rattle.text.specs.Part.{Part};
+ghost use Rattle.object.specs.Object.{Names};
 
 use crate::field::half;
 use crate::table::{Header, Headers};
@@ -11,7 +12,8 @@ const ENOUGH: usize = 64;
 // The bytes that hold the names: those of the section whose number the ELF header has.
 #[tactic(auto, using(text::proofs::Parts::part_from_range))]
 pub fn find_name_table<'a>(headers: &Headers<'a>) -> Option<&'a [u8]>
-    ensures { IfSome result (λ names. Part headers.now.file.now names.now) }
+    ensures part { IfSome result (λ names. Part headers.now.file.now names.now) }
+    ensures table { IfSome result (λ names. Names headers.now.file.now names.now) }
 {
     let header = headers.header(half(headers.file, 62) as usize)?;
     let table = header.section()?;
@@ -32,9 +34,13 @@ fn read_name<'a>(header: &Header<'a>, names: &'a [u8]) -> Option<&'a [u8]>
 pub fn next_named<'a>(headers: &Headers<'a>, names: &[u8], name: &[u8]) -> Option<Header<'a>>
     ensures { IfSome result (λ header. header.file.now ≡ headers.now.file.now) }
 {
-    (0..headers.count)
-        .filter_map(|number| headers.header(number))
-        .find(|header| read_name(header, names) == Some(name))
+    for number in 0..headers.count {
+        let header = headers.header(number)?;
+        if read_name(&header, names) == Some(name) {
+            return Some(header);
+        }
+    }
+    None
 }
 
 // The first characters of a section's name.

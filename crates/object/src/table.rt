@@ -85,7 +85,9 @@ impl<'a> Headers<'a> {
     }
 
     // The first relocation section with entries for section `target`.
-    pub fn find_relocation(&self, target: usize) -> Option<usize> {
+    pub fn find_relocation(&self, target: usize) -> Option<usize>
+        ensures { IfSome result (λ number. number < self.now.count) }
+    {
         (0..self.count).find(|number| {
             self.header(*number)
                 .is_some_and(|header| header.relocates(target))
@@ -99,9 +101,13 @@ impl<'a> Headers<'a> {
         ensures file { IfSome result (λ header. header.file.now ≡ self.now.file.now) }
         ensures code { IfSome result (λ header. executable header.file.now header.at ≡ true) }
     {
-        (from..self.count)
-            .filter_map(|number| self.header(number))
-            .find(|header| header.is_code())
+        for number in from..self.count {
+            let header = self.header(number)?;
+            if header.is_code() {
+                return Some(header);
+            }
+        }
+        None
     }
 }
 
