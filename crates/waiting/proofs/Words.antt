@@ -87,7 +87,7 @@ module _ (m : List ℕ) (at : ℕ) (h : Held) where
 
 pub writing_five_words : (m : List ℕ) (at : ℕ) (h : Held) → at + value_words ≤ length m → Wrote m (written m at h) at h
 writing_five_words m at h fit =
-    record { size = simp length-set; held = written_here m at h fit; others = written_elsewhere m at h }
+    record { size = simp length-set; held = written_here m at h fit; word = word_0 m at h fit; others = written_elsewhere m at h }
 
 pub equal_words_hold_equal_values : (m m' : List ℕ) (a b : ℕ) → ((i : ℕ) → i < value_words → get_or m' (b + i) 0 ≡ get_or m (a + i) 0) → held_at m' b ≡ held_at m a
 unfolding held_at

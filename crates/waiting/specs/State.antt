@@ -104,6 +104,7 @@ AreSingle (Some (x, y)) u v = (u ≡ Plain (exact x)) × (v ≡ Plain (exact y))
 pub record Wrote (m m' : List ℕ) (at : ℕ) (h : Held) : Type 0 where
   pub size : length m' ≡ length m
   pub held : held_at m' at ≡ h
+  pub word : get_or m' at 0 ≡ word_of h.kind
   pub others : (i : ℕ) → (i < at) ⊎ (at + value_words ≤ i) → get_or m' i 0 ≡ get_or m i 0
 
 -- they hold the value v, and the others are as they were
@@ -116,6 +117,7 @@ pub record Holds (m m' : List ℕ) (at : ℕ) (v : Value) : Type 0 where
 pub record Changed (m m' : List ℕ) (at d : ℕ) (h : Held) : Type 0 where
   pub size : length m' ≡ length m
   pub held : d < 11 → held_at m' (at + value_words * d) ≡ h
+  pub word : d < 11 → get_or m' (at + value_words * d) 0 ≡ word_of h.kind
   pub others : (i : ℕ) → (i < at + value_words * d) ⊎ (at + value_words * d + value_words ≤ i) → get_or m' i 0 ≡ get_or m i 0
   pub outside : 11 ≤ d → m' ≡ m
 

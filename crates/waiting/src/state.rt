@@ -88,7 +88,8 @@ pub fn write_held(m: &mut [u64], at: usize, h: Held)
     requires { at + value_words ≤ length m.old }
     ensures { Wrote m.old m.new at h }
 {
-    m[at] = u64::from(h.kind);
+    let word = u64::from(h.kind);
+    m[at] = word;
     m[at + 1] = h.number.bits.value;
     m[at + 2] = h.number.bits.mask;
     m[at + 3] = h.number.range.lo;

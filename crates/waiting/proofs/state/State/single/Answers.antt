@@ -1,4 +1,4 @@
--- `single_at`: the words say which number it is.
+-- `single`: the words say which number it is.
 use Rattle.std.proofs.Common.{arith}
 use Rattle.waiting.proofs.States.{one_number}
 use Rattle.waiting.proofs.state.State.single.Goals as goal
