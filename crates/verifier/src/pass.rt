@@ -53,7 +53,7 @@ fn visit(program: &[u8], at: Index, rlen: u64, m: &mut [u64], work: u64) -> Step
         }
         Instruction::Always { off } => {
             let target = target(at.n as u64, at.i as u64, off);
-            send(m, at, target, work + 1)
+            send(m, at.n, at.i, target, work + 1)
         }
         ins => {
             let outcome = outcome_of(state_at(m, at.i), rlen, ins);

@@ -35,17 +35,18 @@ pub struct Branch {
 
 // Kept: the words, the place, the target and the work apart, as in `waiting::store`: a value with the lent words in it would have to say at each
 // return that they are the same still.
-pub fn send(m: &mut [u64], at: Index, j: u64, work: u64) -> Step
-    requires { (at.i < j) × (block_words * at.n ≤ length m.old) × (work < 1048576) }
-    ensures { Sent (defined.send at.n j (Some (facts_at m.old (layout.state_of at.i))) (waiting_in at.n m.old) work) at.n at.i result m.old m.new }
+// And i and n apart, since any i below j will do, of any n.
+pub fn send(m: &mut [u64], n: usize, i: usize, j: u64, work: u64) -> Step
+    requires { (i < j) × (block_words * n ≤ length m.old) × (work < 1048576) }
+    ensures { Sent (defined.send n j (Some (facts_at m.old (layout.state_of i))) (waiting_in n m.old) work) n i result m.old m.new }
 {
-    if at.n as u64 <= j {
+    if n as u64 <= j {
         return Err(Halt {
             reason: Reason::JumpsOut,
             work,
         });
     }
-    arrive(m, at.n, at.i, j as usize);
+    arrive(m, n, i, j as usize);
     Ok(work + 11)
 }
 
@@ -57,7 +58,7 @@ fn send_with(m: &mut [u64], at: Index, j: u64, d: u64, h: Held, work: u64) -> St
     let state = state_of(at.i);
     let words = state_at(m, at.i).words_of_register(d);
     put_register(m, state, d, h);
-    let step = send(m, at, j, work);
+    let step = send(m, at.n, at.i, j, work);
     put_words_back(m, state, d, words);
     step
 }
@@ -129,7 +130,7 @@ fn turn(m: &mut [u64], at: Index, taken: bool, target: u64, work: u64) -> Step
     ensures { Sent (defined.send at.n (cond taken target (at.i + 1)) (Some (facts_at m.old (layout.state_of at.i))) (waiting_in at.n m.old) work) at.n at.i result m.old m.new }
 {
     let next = if taken { target } else { at.i as u64 + 1 };
-    send(m, at, next, work)
+    send(m, at.n, at.i, next, work)
 }
 
 // A jump. Two known numbers go one way, and nothing is learnt of them.
@@ -170,7 +171,7 @@ pub fn proceed(m: &mut [u64], at: Index, outcome: Result<Outcome, Reason>, work:
     match outcome {
         Ok(does) => match does {
             Outcome::Put { dst, held } => put_next(m, at, dst, held, work),
-            Outcome::Keep => send(m, at, at.i as u64 + 1, work),
+            Outcome::Keep => send(m, at.n, at.i, at.i as u64 + 1, work),
             Outcome::Stop => Ok(work),
         },
         Err(reason) => Err(Halt { reason, work }),
