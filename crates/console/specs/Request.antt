@@ -1,5 +1,5 @@
 -- What a request line says: its words, the numbers and the bytes of `run`.
-use Rattle.std.specs.Prelude.{Bool, cond, List, ◌≡◌, ℕ, length, take, drop, eqb, Option, Some, None}
+use Rattle.std.specs.Prelude.{Bool, cond, List, ◌≡◌, ℕ, ◌≤◌, length, take, drop, eqb, Option, Some, None}
 use Rattle.text.specs.Scan.{other, leading}
 use Rattle.text.specs.Number.{number, numeral}
 use Rattle.text.specs.Hex.{spelled, bytes_of}
@@ -44,8 +44,18 @@ two (Some n) (Some k) = Some (n, k)
 unfoldable pub sizes_of : List ℕ → ℕ → ℕ → Option (ℕ × ℕ)
 sizes_of s n k = cond (blank (after (after s))) (two (spelled (word s) n) (spelled (word (after s)) k)) None
 
--- program and rec are the bytes of PROGRAM RECORD at the start of s
-pub record Filled (s : List ℕ) (n k : ℕ) (program rec : List ℕ) : Type 0 where
-  pub count : sizes_of s n k ≡ Some (length program, length rec)
-  pub program_bytes : program ≡ bytes_of (word s)
-  pub rec_bytes : rec ≡ bytes_of (word (after s))
+-- a program and a record of these sizes have room in n and k
+abbrev pub Fit : Option (ℕ × ℕ) → ℕ → ℕ → Type 0
+Fit (Some (a, b)) n k = (a ≤ n) × (b ≤ k)
+Fit None n k = Unit {0}
+
+-- so many bytes of the program and of the record are those that the words v and w spell
+abbrev pub Kept : List ℕ → List ℕ → List ℕ → List ℕ → Option (ℕ × ℕ) → Type 0
+Kept v w program rec (Some (a, b)) = (take a program ≡ bytes_of v) × (take b rec ≡ bytes_of w)
+Kept v w program rec None = Unit {0}
+
+-- the answer r on PROGRAM RECORD at the start of s, and the bytes as they are left in a program of n and a record of k
+pub record Filled (s program rec : List ℕ) (n k : ℕ) (r : Option (ℕ × ℕ)) : Type 0 where
+  pub count : r ≡ sizes_of s n k
+  pub room : Fit r n k
+  pub held : Kept (word s) (word (after s)) program rec r

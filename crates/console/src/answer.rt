@@ -2,18 +2,17 @@
 ghost use Rattle.std.specs.Prelude.{◌++◌, ◌≡◌, length, false, true};
 ghost use Rattle.text.specs.Buffer.{Put, chars, decimal};
 ghost use Rattle.text.specs.Page.{Wrote};
-ghost use Rattle.console.specs.Answer.{Told, Replied, Responded, answer_text, finding_text, outcome_of, outcome_text, reply_text, run_reply, verify_reply};
+ghost use Rattle.console.specs.Answer.{Told, Replied, Responded, answer_text, finding_text, outcome_of, outcome_text, reply_text, run_reply};
 ghost use Rattle.console.specs.Bits.{asked_of};
 
 use crate::bits::{named, read_asked, work};
 use crate::request::{Numbers, Words, read_bytes, read_numbers};
+use crate::verify::verify;
 use analysis::Finding;
 use interpreter::interpret;
 use known_bits::Bits;
 use machine::outcome::Outcome;
 use reasons::{fault_number, reason_number};
-use text::hex::read_hex;
-use text::number::read_decimal;
 use text::page::Page;
 
 // A line with more characters is no request, whatever it says.
@@ -58,24 +57,8 @@ fn run(words: &mut Words<'_>, program: &mut [u8], rec: &mut [u8], stack: &mut [u
     ensures { result ≡ run_reply words.old.rest.now (length program.old) (length rec.old) stack.old }
 {
     let numbers = read_numbers(words)?;
-    let (program, rec) = read_bytes(words, program, rec)?;
-    Some(Reply::Ran(execute(numbers, program, rec, stack)))
-}
-
-// R PROGRAM, and no word after them. The program's bytes go to the start of `program`.
-#[tactic(auto, unfolding(crate::specs::Answer::verify_reply, crate::specs::Answer::due_finding, crate::specs::Answer::found_by))]
-fn verify(words: &mut Words<'_>, program: &mut [u8], scratch: &mut [u64]) -> Option<Reply>
-    ensures { result ≡ verify_reply words.old.rest.now (length program.old) (length scratch.old) }
-{
-    let record_length = words.take();
-    let bytes = words.take();
-    if !words.is_empty() {
-        return None;
-    }
-    let record_length = read_decimal(record_length)?;
-    let n = read_hex(bytes, program)?;
-    let judged = verifier::verify::verify(&program[..n], record_length, scratch).ok()?;
-    Some(Reply::Found(judged.finding))
+    let (n, k) = read_bytes(words, program, rec)?;
+    Some(Reply::Ran(execute(numbers, &program[..n], &rec[..k], stack)))
 }
 
 // OP WIDTH v/m v/m.

@@ -4,3 +4,4 @@
 pub mod answer;
 pub mod bits;
 pub mod request;
+pub mod verify;

@@ -1,6 +1,6 @@
 // What a request line says. Words are separated by spaces; spaces before the first and after the last word are ignored.
-ghost use Rattle.std.specs.Prelude.{◌≡◌, length, None, IfSome, IfNone};
-ghost use Rattle.console.specs.Request.{Filled, word, after, blank, numbers_of, sizes_of};
+ghost use Rattle.std.specs.Prelude.{◌≡◌, length};
+ghost use Rattle.console.specs.Request.{Filled, word, after, blank, numbers_of};
 
 use text::hex::read_hex;
 use text::number::{read_decimal, read_number};
@@ -62,15 +62,15 @@ pub fn read_numbers(words: &mut Words<'_>) -> Option<Numbers>
     })
 }
 
-// PROGRAM RECORD, and no word after them. Their bytes go to the starts of `program` and `rec`.
+// How many bytes PROGRAM RECORD spell, and no word after them: they go to the starts of `program` and `rec`.
+// Kept: how many they are, and no slices, of which nothing would be said of what is lent.
 #[tactic(auto, unfolding(crate::specs::Request::sizes_of, crate::specs::Request::two))]
-pub fn read_bytes<'a>(
+pub fn read_bytes(
     words: &mut Words<'_>,
-    program: &'a mut [u8],
-    rec: &'a mut [u8],
-) -> Option<(&'a [u8], &'a [u8])>
-    ensures some { IfSome result (λ both. Filled words.old.rest.now (length program.old) (length rec.old) both.0.now both.1.now) }
-    ensures none { IfNone result (sizes_of words.old.rest.now (length program.old) (length rec.old) ≡ None) }
+    program: &mut [u8],
+    rec: &mut [u8],
+) -> Option<(usize, usize)>
+    ensures { Filled words.old.rest.now program.new rec.new (length program.old) (length rec.old) result }
 {
     let first = words.take();
     let second = words.take();
@@ -79,5 +79,5 @@ pub fn read_bytes<'a>(
     }
     let n = read_hex(first, program)?;
     let k = read_hex(second, rec)?;
-    Some((&program[..n], &rec[..k]))
+    Some((n, k))
 }
