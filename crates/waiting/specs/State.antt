@@ -117,9 +117,13 @@ pub record Holds (m m' : List ℕ) (at : ℕ) (v : Value) : Type 0 where
 pub record Changed (m m' : List ℕ) (at d : ℕ) (h : Held) : Type 0 where
   pub size : length m' ≡ length m
   pub held : d < 11 → held_at m' (at + value_words * d) ≡ h
-  pub word : d < 11 → get_or m' (at + value_words * d) 0 ≡ word_of h.kind
   pub others : (i : ℕ) → (i < at + value_words * d) ⊎ (at + value_words * d + value_words ≤ i) → get_or m' i 0 ≡ get_or m i 0
   pub outside : 11 ≤ d → m' ≡ m
+
+-- as Changed, and the first of the words is word_of the kind of h, and no other word that kind_of reads as this kind
+pub record PutRegister (m m' : List ℕ) (at d : ℕ) (h : Held) : Type 0 where
+  pub changed : Changed m m' at d h
+  pub word : d < 11 → get_or m' (at + value_words * d) 0 ≡ word_of h.kind
 
 -- the words of register d of the state at `at` are w, and the others are as they were; there is no register from 11 on
 pub record PutBack (m m' : List ℕ) (at d : ℕ) (w : List ℕ) : Type 0 where

@@ -1,7 +1,7 @@
 // Values and states in lent words: read, written, copied, joined.
 ghost use Rattle.std.specs.Prelude.{◌≡◌, ℕ, ◌+◌, ◌*◌, ◌≤◌, ◌<◌, length, get_or};
 ghost use Rattle.analysis.specs.Values.{joined_facts, joined_value, start_facts, value_of};
-ghost use Rattle.waiting.specs.State.{held_in, held_at, facts_at, IsSingle, nothing_known, Wrote, Holds, Changed, PutBack, Stored};
+ghost use Rattle.waiting.specs.State.{held_in, held_at, facts_at, IsSingle, nothing_known, Wrote, Holds, PutRegister, PutBack, Stored};
 ghost use Rattle.waiting.specs.Layout.{value_words, state_words};
 
 use crate::value::{Held, Kind};
@@ -100,7 +100,7 @@ pub fn write_held(m: &mut [u64], at: usize, h: Held)
 // Kept: those that write take the words and the place, and no value of both, as `arrive` of `store` says.
 pub fn put_register(m: &mut [u64], at: usize, d: u64, h: Held)
     requires { at + state_words ≤ length m.old }
-    ensures { Changed m.old m.new at d h }
+    ensures { PutRegister m.old m.new at d h }
 {
     if d < REGISTERS as u64 {
         write_held(m, at + VALUE_WORDS * d as usize, h);

@@ -14,4 +14,4 @@ returns-in-Register c =
     let is = c.state_of-state.ensures in
     rw c.in-Register.is
     (a_state_changed_twice_is_sent _ _ _ _ _ _ _ _ _ _ _ _ _ _ _ c.requires.0 c.plain-in-Register.ensures (rw (c.state_at.ensures.0, c.state_at.ensures.1) at c.words_of_register-words.ensures)
-    (rw is at c.put_register.ensures) (rw is at c.put_words_back.ensures) (rw c.plain-in-Register-2.ensures at c.send_with-step.ensures))
+    (rw is at c.put_register.ensures.changed) (rw is at c.put_words_back.ensures) (rw c.plain-in-Register-2.ensures at c.send_with-step.ensures))

@@ -8,4 +8,4 @@ returns c =
     rw c.block_of.ensures
     (a_changed_state_comes_to_an_unmarked_block _ _ _ _ _ _ _ _ _ (omega arith) c.requires.next_within.0 c.requires.next_within.1
     c.requires.nothing_waits_there (rw (c.state_of-to.ensures, c.state_of.ensures) at c.copy_state.ensures)
-    (rw c.state_of-to.ensures at c.put_register.ensures))
+    (rw c.state_of-to.ensures at c.put_register.ensures.changed))
